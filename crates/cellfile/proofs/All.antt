@@ -1,0 +1,30 @@
+-- Laws of `All`, that every element of a list is as P says: of two lists joined, of the end of one, of one element;
+-- where P says more than Q; of the values of a function.
+use Prim.Native.Nat.{ℕ, zero, suc}
+use mathlib.Core.List.{List, [], _∷_, _++_, map}
+use lib.ListN.{getD, drop}
+use Rattle.cellfile.specs.Fits.{All}
+
+module _ {A : Type 0} (P : A → Type 0) where
+  pub all-append : (s t : List A) → All P s → All P t → All P (s ++ t)
+  all-append [] t a b = b
+  all-append (x ∷ s) t a b = (a .0, all-append s t (a .1) b)
+
+  pub all-drop : (n : ℕ) (s : List A) → All P s → All P (drop n s)
+  all-drop zero s a = a
+  all-drop (suc n) [] a = a
+  all-drop (suc n) (x ∷ s) a = all-drop n s (a .1)
+
+  -- at any place, where it holds of what stands for a missing element
+  pub all-getD : (s : List A) (i : ℕ) (d : A) → P d → All P s → P (getD s i d)
+  all-getD [] i d p a = p
+  all-getD (x ∷ s) zero d p a = a .0
+  all-getD (x ∷ s) (suc i) d p a = all-getD s i d p (a .1)
+
+pub all-imp : {A : Type 0} (P Q : A → Type 0) → ((x : A) → P x → Q x) → (s : List A) → All P s → All Q s
+all-imp P Q f [] a = tt
+all-imp P Q f (x ∷ s) a = (f x (a .0), all-imp P Q f s (a .1))
+
+pub all-map : {A B : Type 0} (f : A → B) (P : B → Type 0) (s : List A) → All (λ (x : A). P (f x)) s → All P (map f s)
+all-map f P [] a = tt
+all-map f P (x ∷ s) a = (a .0, all-map f P s (a .1))

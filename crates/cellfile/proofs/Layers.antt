@@ -1,0 +1,55 @@
+-- A call checks its inputs one after the other, each by a function that answers the first of that input's rows. These laws
+-- put the answers together: what is refused by some rows is refused by them and any rows after them, and where they refuse
+-- nothing the rows after them decide.
+use Prim.Native.Nat.{ℕ, zero, suc, _<_}
+use mathlib.Core.Path.{_≡_, refl, sym, ap, _∙_}
+use mathlib.Core.Bool.{Bool, true, false, cond}
+use mathlib.Core.List.{List, [], _∷_, _++_}
+use native.Mathlib.Omega.{arith}
+use lib.ListN.{length}
+use Rattle.cellfile.specs.Refusals.{Row, first}
+use Rattle.cellfile.specs.Answers.{Answer, answer}
+use Rattle.cellfile.specs.Fits.{All}
+use Rattle.cellfile.proofs.Rows.{first-none}
+
+-- ---- answers
+
+-- an answer with no value is a refusal, where an accepted one has a value
+answer-refused : (n k v : ℕ) (vs : List ℕ) → (k, []) ≡ answer n (v ∷ vs) → (0 < n) × (k ≡ n)
+answer-refused zero k v vs e = absurd (omega (arith, ap (λ (a : Answer). length (a .1)) e))
+answer-refused (suc n) k v vs e = (omega arith, ap (λ (a : Answer). a .0) e)
+
+-- an answer with the number 0 is no refusal
+pub answer-accepted : (n : ℕ) (us vs : List ℕ) → (0, us) ≡ answer n vs → (n ≡ 0) × (us ≡ vs)
+answer-accepted zero us vs e = (refl, ap (λ (a : Answer). a .1) e)
+answer-accepted (suc n) us vs e = absurd (omega (arith, ap (λ (a : Answer). a .0) e))
+
+-- ---- rows after rows
+
+first-refused : (rows more : List Row) → 0 < first rows → first (rows ++ more) ≡ first rows
+first-refused [] more h = absurd (omega arith)
+first-refused (r ∷ rows) more h = go (r .1) h (first-refused rows more)
+  where
+    go : (t : Bool) → 0 < cond t (r .0) (first rows) → (0 < first rows → first (rows ++ more) ≡ first rows)
+        → cond t (r .0) (first (rows ++ more)) ≡ cond t (r .0) (first rows)
+    go true k i = refl
+    go false k i = i k
+
+first-passed : (rows more : List Row) → All (λ (r : Row). r .1 ≡ false) rows → first (rows ++ more) ≡ first more
+first-passed [] more h = refl
+first-passed (r ∷ rows) more h = rw (h .0, first-passed rows more (h .1))
+
+module _ (rows more : List Row) (values : List ℕ) where
+  pub layer-refused : (k v : ℕ) (vs : List ℕ) → (k, []) ≡ answer (first rows) (v ∷ vs)
+      → (k, []) ≡ answer (first (rows ++ more)) values
+  layer-refused k v vs e =
+      let r = answer-refused (first rows) k v vs e in
+      same (first rows) (r .0) (r .1) ∙ ap (λ n. answer n values) (sym (first-refused rows more (r .0)))
+    where
+      same : (n : ℕ) → 0 < n → k ≡ n → (k, []) ≡ answer n values
+      same zero h p = absurd (omega arith)
+      same (suc n) h p = rw p
+
+  pub layer-passed : {a : Answer} → All (λ (r : Row). 0 < r .0) rows → first rows ≡ 0
+      → a ≡ answer (first more) values → a ≡ answer (first (rows ++ more)) values
+  layer-passed h e p = p ∙ ap (λ n. answer n values) (sym (first-passed rows more (first-none rows h e)))

@@ -1,0 +1,15 @@
+pub mod All
+pub mod Numbers
+pub mod Bytes
+pub mod Fields
+pub mod Rows
+pub mod RoundTrip
+pub mod Layers
+pub mod Walk
+pub mod Forms
+pub mod Parts
+pub mod Marks
+pub mod Repeated
+pub mod Merge
+pub mod Matched
+pub mod Weights

@@ -1,0 +1,147 @@
+-- Reading and writing undo each other, for a file of any layout. In plain words:
+-- a file whose values fit their fields, written and read again, is the same file (`read-write`);
+-- bytes that have the layout's kind, no header zero bit set and the length that their header says, read and written
+-- again, are the same bytes (`write-read`).
+-- Then: the bytes of every list, slip and pairing that is not refused are such, and what holds of an accepted list.
+use Prim.Native.Nat.{ℕ, _*_, _<_}
+use mathlib.Core.Path.{_≡_, refl, sym, _∙_}
+use mathlib.Core.Bool.{true, false}
+use mathlib.Core.List.{List, [], _∷_, _++_, map, append-nil}
+use native.Mathlib.Omega.{arith}
+use lib.ListN.{length, take, drop, length-drop, take-append-drop}
+use lib.Seq.{drop-at, drop-drop, take-all}
+use Rattle.matching.specs.Listed.{Entry}
+use Rattle.cellfile.specs.Fields.{size, fields, readRecord, writeRecord, readRecords, writeRecords}
+use Rattle.cellfile.specs.Files.{Layout, storeList, shortList, slip, pairing, start, fileLength}
+use Rattle.cellfile.specs.Files.{header, kindOf, cellsOf, countOf, zerosOf, entriesOf}
+use Rattle.cellfile.specs.Files.{File, readFile, writeFile, readEntries}
+use Rattle.cellfile.specs.Fits.{All, AreBytes, WholeBytes, FitsFile}
+use Rattle.cellfile.specs.Refusals.{first, listRows, key, ascendingFrom, misheaded, badSlip, badPairing}
+use Rattle.cellfile.proofs.All.{all-drop}
+use Rattle.cellfile.proofs.Fields.{length-write-record, read-write-record, write-read-record}
+use Rattle.cellfile.proofs.Fields.{length-read-records, read-write-records, write-read-records}
+use Rattle.cellfile.proofs.Rows.{or-none, list-none, not-a-list-none, wrong-length-none}
+use Rattle.cellfile.proofs.Rows.{stray-entry-none, unordered-none, misheaded-none}
+
+-- ---- a file, written and read again
+
+-- what is read of bytes whose header and rest are known
+read-parts : (l : Layout) (s rest : List ℕ) (kind n m : ℕ) → readRecord header s ≡ kind ∷ n ∷ m ∷ 0 ∷ []
+    → drop 4 s ≡ rest → readFile l s ≡ record {
+      cells = n;
+      extra = readRecord (l .extra n) rest;
+      entries = readRecords (l .entry) m (drop (size (l .extra n)) rest);
+    }
+read-parts l s rest kind n m h d = rw (h, ← drop-drop (size (l .extra n)) 4 s, d)
+
+pub read-write : (l : Layout) (f : File) → FitsFile l f → readFile l (writeFile l f) ≡ f
+read-write l f fits =
+    read-parts l (writeFile l f) rest (l .kind) (f .cells) (length (f .entries)) header-again rest-again
+    ∙ rw (extra-again, entries-again)
+  where
+    head : List ℕ
+    head = l .kind ∷ f .cells ∷ length (f .entries) ∷ 0 ∷ []
+
+    widths : List ℕ
+    widths = l .extra (f .cells)
+
+    entries : List ℕ
+    entries = writeRecords (l .entry) (f .entries)
+
+    rest : List ℕ
+    rest = writeRecord widths (f .extra) ++ entries
+
+    header-again : readRecord header (writeFile l f) ≡ head
+    header-again =
+        read-write-record header head rest refl (fits .kind, (fits .cells, (fits .count, (omega arith, tt))))
+
+    rest-again : drop 4 (writeFile l f) ≡ rest
+    rest-again = drop-at (writeRecord header head) rest 4 (length-write-record header head)
+
+    extra-again : readRecord widths rest ≡ f .extra
+    extra-again = read-write-record widths (f .extra) entries (fits .whole-extra) (fits .extra)
+
+    entries-again : readRecords (l .entry) (length (f .entries)) (drop (size widths) rest) ≡ f .entries
+    entries-again =
+        rw (drop-at (writeRecord widths (f .extra)) entries (size widths) (length-write-record widths (f .extra)))
+        (rw append-nil at (read-write-records (l .entry) (f .entries) [] (fits .whole-entry) (fits .entries)))
+
+-- ---- bytes, read and written again
+
+header-same : (s : List ℕ) (kind : ℕ) → kindOf s ≡ kind → zerosOf s ≡ 0
+    → kind ∷ cellsOf s ∷ countOf s ∷ 0 ∷ [] ≡ readRecord header s
+unfolding fields
+header-same s kind k z = rw (← k, ← z)
+
+pub write-read : (l : Layout) (s : List ℕ) → WholeBytes (l .extra (cellsOf s)) → WholeBytes (l .entry) → AreBytes s
+    → kindOf s ≡ l .kind → zerosOf s ≡ 0 → length s ≡ fileLength l (cellsOf s) (countOf s)
+    → writeFile l (readFile l s) ≡ s
+write-read l s whole-extra whole-entry a k z h =
+    rw (header-again, extra-again, entries-again, take-append-drop (size widths) (drop 4 s), take-append-drop 4 s)
+  where
+    widths : List ℕ
+    widths = l .extra (cellsOf s)
+
+    at-entries : ℕ
+    at-entries = start l (cellsOf s)
+
+    bytes-from : (i : ℕ) → AreBytes (drop i s)
+    bytes-from i = all-drop (λ (b : ℕ). b < 256) i s a
+
+    header-again : writeRecord header (l .kind ∷ cellsOf s ∷ length (readEntries l s) ∷ 0 ∷ []) ≡ take 4 s
+    header-again =
+        rw (length-read-records (l .entry) (countOf s) (drop at-entries s), header-same s (l .kind) k z)
+        (write-read-record header s refl a (omega arith))
+
+    extra-again : writeRecord widths (readRecord widths (drop 4 s)) ≡ take (size widths) (drop 4 s)
+    extra-again =
+        write-read-record widths (drop 4 s) whole-extra (bytes-from 4) (rw (length-drop 4 s) (omega arith))
+
+    length-entries : length (drop at-entries s) ≡ size (l .entry) * countOf s
+    length-entries = rw (length-drop at-entries s) (omega arith)
+
+    entries-again : writeRecords (l .entry) (readEntries l s) ≡ drop (size widths) (drop 4 s)
+    entries-again =
+        write-read-records (l .entry) (countOf s) (drop at-entries s) whole-entry (bytes-from at-entries)
+        (omega (arith, length-entries))
+        ∙ take-all (size (l .entry) * countOf s) (drop at-entries s) (omega (arith, length-entries))
+        ∙ sym (drop-drop (size widths) 4 s)
+
+-- ---- the layouts, and what is not refused
+
+-- both laws are for layouts of whole bytes, which all four are
+pub whole-layouts : All (λ (l : Layout). (n : ℕ) → WholeBytes (l .extra n) × WholeBytes (l .entry))
+    (storeList ∷ shortList ∷ slip ∷ pairing ∷ [])
+whole-layouts = ((λ n. (refl, refl)), ((λ n. (refl, refl)), ((λ n. (refl, refl)), ((λ n. (refl, refl)), tt))))
+
+pub write-read-list : (s : List ℕ) → AreBytes s → first (listRows storeList s) ≡ 0
+    → writeFile storeList (readFile storeList s) ≡ s
+write-read-list s a e =
+    let rows = list-none storeList s e in
+    let h = not-a-list-none storeList s (rows .0) in
+    write-read storeList s refl refl a (h .0) (h .1) (wrong-length-none storeList s (rows .1 .1 .0))
+
+-- a layout with nothing between the header and the entries
+write-read-headed : (l : Layout) (n : ℕ) (s : List ℕ) → start l (cellsOf s) ≡ 4 → WholeBytes (l .extra (cellsOf s))
+    → WholeBytes (l .entry) → AreBytes s → misheaded (l .kind) (size (l .entry)) n s ≡ false
+    → writeFile l (readFile l s) ≡ s
+write-read-headed l n s four whole-extra whole-entry a e =
+    let h = misheaded-none (l .kind) (size (l .entry)) n s e in
+    write-read l s whole-extra whole-entry a (h .0) (h .2) (omega arith)
+
+pub write-read-slip : (n : ℕ) (s : List ℕ) → AreBytes s → badSlip n s ≡ false → writeFile slip (readFile slip s) ≡ s
+unfolding badSlip
+write-read-slip n s a e = write-read-headed slip n s refl refl refl a (or-none _ _ e .0)
+
+pub write-read-pairing : (n : ℕ) (s : List ℕ) → AreBytes s → badPairing n s ≡ false
+    → writeFile pairing (readFile pairing s) ≡ s
+unfolding badPairing
+write-read-pairing n s a e = write-read-headed pairing n s refl refl refl a (or-none _ _ e .0)
+
+-- the entries of a list that is not refused: each a below b below n, and ascending
+pub accepted-entries : (s : List ℕ) → first (listRows storeList s) ≡ 0
+    → All (λ (e : Entry). (e .0 < e .1) × (e .1 < cellsOf s)) (entriesOf storeList s)
+    × (ascendingFrom 0 (map (λ (e : Entry). key (e .0) (e .1)) (entriesOf storeList s)) ≡ true)
+accepted-entries s e =
+    let rows = list-none storeList s e in
+    (stray-entry-none storeList s (rows .1 .1 .1 .0), unordered-none storeList s (rows .1 .1 .1 .1 .0))

@@ -1,0 +1,62 @@
+-- Records met one by one from the start of a file, as the loops over entries meet them.
+-- The record at place i; and any, and ascendingFrom, from place i on in terms of place i and what follows.
+use Prim.Native.Nat.{ℕ, suc, _+_, _*_, _-_, _<_, _≤_}
+use mathlib.Core.Path.{_≡_, refl, subst}
+use mathlib.Core.Bool.{Bool, true, false}
+use mathlib.Core.List.{List, [], _∷_, map}
+use native.Mathlib.Omega.{arith}
+use native.Mathlib.Nat.{mul-suc, sub-zero}
+use native.Mathlib.Numerals.{add-one}
+use borrow.Author.Tests.{lt-leb, le-leb}
+use lib.ListN.{length, take, drop, length-drop}
+use lib.Seq.{drop-drop, take-all}
+use Rattle.matching.specs.Lists.{any}
+use Rattle.cellfile.specs.Fields.{size, readRecord, readRecords}
+use Rattle.cellfile.specs.Refusals.{ascendingFrom}
+
+-- a part to the end is what is left
+rest : (s : List ℕ) (at : ℕ) → take (length s - at) (drop at s) ≡ drop at s
+rest s at = take-all (length s - at) (drop at s) (omega (arith, length-drop at s))
+
+pub part : (P : List ℕ → Type 0) (s : List ℕ) (at : ℕ) → P (take (length s - at) (drop at s)) → P (drop at s)
+part P s at = subst P (rest s at)
+
+-- the records of a file from place i on, its first standing at h
+abbrev pub from : List ℕ → List ℕ → ℕ → ℕ → ℕ → List (List ℕ)
+from ws s h m i = readRecords ws (m - i) (drop (h + size ws * i) s)
+
+pub from-start : (ws s : List ℕ) (h m : ℕ) → readRecords ws m (drop h s) ≡ from ws s h m 0
+from-start ws s h m =
+    let e : h + size ws * 0 ≡ h = omega arith in
+    rw (sub-zero, e)
+
+pub from-end : (ws s : List ℕ) (h m i : ℕ) → m ≤ i → from ws s h m i ≡ []
+unfolding readRecords
+from-end ws s h m i l =
+    let e : m - i ≡ 0 = omega arith in
+    rw e
+
+module _ (ws s : List ℕ) (h m i : ℕ) (l : i < m) where
+  pub from-next : from ws s h m i ≡ readRecord ws (drop (h + size ws * i) s) ∷ from ws s h m (i + 1)
+  unfolding readRecords
+  from-next =
+      let e : m - i ≡ suc (m - (i + 1)) = omega arith in
+      let f : h + size ws * i + size ws ≡ h + size ws * (i + 1) = rw (add-one, mul-suc) (omega arith) in
+      rw (e, drop-drop (size ws) (h + size ws * i) s, f)
+
+  module _ {A : Type 0} (f : List ℕ → A) where
+    pub any-here : (t : A → Bool) → t (f (readRecord ws (drop (h + size ws * i) s))) ≡ true
+        → any t (map f (from ws s h m i)) ≡ true
+    any-here t p = rw (from-next, p)
+
+    pub any-next : (t : A → Bool) → t (f (readRecord ws (drop (h + size ws * i) s))) ≡ false
+        → any t (map f (from ws s h m i)) ≡ any t (map f (from ws s h m (i + 1)))
+    any-next t p = rw (from-next, p)
+
+  module _ (f : List ℕ → ℕ) (low : ℕ) {k : ℕ} (q : k ≡ f (readRecord ws (drop (h + size ws * i) s))) where
+    pub ascending-not : k < low → ascendingFrom low (map f (from ws s h m i)) ≡ false
+    ascending-not p = rw (from-next, ← q, lt-leb low k p)
+
+    pub ascending-next : low ≤ k → ascendingFrom low (map f (from ws s h m i))
+        ≡ ascendingFrom (k + 1) (map f (from ws s h m (i + 1)))
+    ascending-next p = rw (from-next, ← q, le-leb low k p, add-one k)

@@ -1,0 +1,48 @@
+-- `wrong_head` is what refusals 7 and 9 say of a header.
+use Rattle.cellfile.proofs.Parts.{entries-fit, head-short, head-kind, head-cells, head-zeros, head-length}
+use native.Mathlib.Omega.{arith}
+use borrow.Author.Needs.{needs}
+use Rattle.cellfile.proofs.form.wrong_head.Statement.{statement}
+use Rattle.cellfile.proofs.form.wrong_head.Tie as tie
+use Rattle.cellfile.proofs.form.wrong_head.Reads as reads
+use Rattle.cellfile.proofs.form.wrong_head.Lts as lts
+use Rattle.cellfile.proofs.decode.header_at.Reads as header-at-reads
+
+returns : tie.Need-returns
+returns c = head-short _ _ _ _ (c .if1 .taken)
+
+header-at-requires : tie.Need-header-at-requires
+header-at-requires c κs = search needs
+
+returns-2 : tie.Need-returns-2
+returns-2 c = head-kind _ _ _ _ _ (c .before .before .header-at .ensures) (c .before .before .before .if1 .left) (c .if2 .taken)
+
+returns-3 : tie.Need-returns-3
+returns-3 c = head-cells _ _ _ _ _ (c .before .before .before .before .header-at .ensures) (c .before .before .before .before .before .if1 .left) (c .before .before .if2 .left) (c .if3 .taken)
+
+returns-4 : tie.Need-returns-4
+returns-4 c =
+    head-zeros _ _ _ _ _ (c .before .before .before .before .before .before .header-at .ensures) (c .before .before .before .before .before .before .before .if1 .left) (c .before .before .before .before .if2 .left) (c .before .before .if3 .left) (c .if4 .taken)
+
+mul-result : tie.Need-mul-result
+mul-result c = omega (arith, entries-fit _ _ (c .before .before .before .before .before .before .before .before .before .before .pre) (c .before .before .before .before .before .before .before .header-at .ensures .m-fits))
+
+add-result : tie.Need-add-result
+add-result c = omega (arith, entries-fit _ _ (c .before .before .before .before .before .before .before .before .before .before .pre) (c .before .before .before .before .before .before .before .header-at .ensures .m-fits))
+
+returns-5 : tie.Need-returns-5
+returns-5 c =
+    head-length _ _ _ _ _ (c .before .before .before .before .before .before .before .header-at .ensures) (c .before .before .before .before .before .before .before .before .if1 .left) (c .before .before .before .before .before .if2 .left) (c .before .before .before .if3 .left) (c .before .if4 .left)
+
+pub wrong-head-spec : {M : Type 1} → statement M
+wrong-head-spec =
+    tie.close
+    (tie.spec
+    returns
+    header-at-requires
+    returns-2
+    returns-3
+    returns-4
+    mul-result
+    add-result
+    returns-5)

@@ -1,0 +1,35 @@
+-- `weigh` answers what `weigh_in` answers, and clears both buffers.
+use mathlib.Core.Path.{ap, _∙_}
+use Rattle.cellfile.specs.Files.{zeros}
+use borrow.Author.Needs.{needs}
+use Rattle.cellfile.proofs.weigh.Statement.{statement}
+use Rattle.cellfile.proofs.weigh.Tie as tie
+use Rattle.cellfile.proofs.weigh.Reads as reads
+use Rattle.cellfile.proofs.weigh.Lts as lts
+use Rattle.cellfile.proofs.weighing.weigh_in.Reads as weigh-in-reads
+use Rattle.cellfile.proofs.work.clear.Reads as clear-reads
+
+weigh-in-requires : tie.Need-weigh-in-requires
+weigh-in-requires c κs = search needs
+
+clear-requires : tie.Need-clear-requires
+clear-requires c κs = search needs
+
+clear-requires-2 : tie.Need-clear-requires-2
+clear-requires-2 c κs = search needs
+
+same-length : tie.Need-same-length
+same-length c = search needs
+
+same-length-2 : tie.Need-same-length-2
+same-length-2 c = search needs
+
+returns : tie.Need-returns
+returns c =
+    let w = c .before .before .before .before .before .before .before .before .before .before .weigh-in in
+    (w .ensures, (c .before .before .before .before .before .before .clear .ensures ∙ ap zeros (w .kept .1 .1 .0), c .before .before .clear2 .ensures))
+
+pub weigh-spec : {M : Type 1} → statement M
+weigh-spec =
+    tie.close
+    (tie.spec weigh-in-requires clear-requires clear-requires-2 same-length same-length-2 returns)

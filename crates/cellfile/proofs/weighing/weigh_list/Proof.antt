@@ -1,0 +1,51 @@
+-- `weigh_list` answers refusal 9, or what `weigh_pairs` answers.
+use mathlib.Core.Path.{sym, ap, _∙_}
+use Rattle.cellfile.specs.Answers.{checked}
+use Rattle.cellfile.proofs.Weights.{pairing-refused, pairing-accepted, pairing-passed}
+use borrow.Author.Needs.{needs}
+use Rattle.cellfile.proofs.weighing.weigh_list.Statement.{statement}
+use Rattle.cellfile.proofs.weighing.weigh_list.Tie as tie
+use Rattle.cellfile.proofs.weighing.weigh_list.Reads as reads
+use Rattle.cellfile.proofs.weighing.weigh_list.Lts as lts
+use Rattle.cellfile.proofs.form.check_pairing.Reads as check-pairing-reads
+use Rattle.cellfile.proofs.weighing.weigh_pairs.Reads as weigh-pairs-reads
+
+check-pairing-requires : tie.Need-check-pairing-requires
+check-pairing-requires c κs = search needs
+
+enum-known-r : tie.Need-enum-known-r
+enum-known-r c = search needs
+
+enum-known-k : tie.Need-enum-known-k
+enum-known-k c = search needs
+
+weigh-pairs-requires : tie.Need-weigh-pairs-requires
+weigh-pairs-requires c κs =
+    let p = c .before .before .before .before .before .before .before .before .pre in
+    let a = pairing-accepted _ _ (p .1) (ap checked (sym (c .before .before .k .given .1)) ∙ c .before .before .before .before .check-pairing .ensures) in
+    ((p .0, a .0), (p .2, a .1, p .3))
+
+returns : tie.Need-returns
+returns c =
+    pairing-refused _ _ (c .before .before .before .before .before .before .before .pre .1) _ _ (ap checked (sym (c .before .r .given .1)) ∙ c .before .before .before .check-pairing .ensures)
+
+same-length : tie.Need-same-length
+same-length c = search needs
+
+returns-2 : tie.Need-returns-2
+returns-2 c =
+    let p = c .before .before .before .before .before .before .before .before .before .before .before .pre in
+    let a = pairing-accepted _ _ (p .1) (ap checked (sym (c .before .before .before .before .before .k .given .1)) ∙ c .before .before .before .before .before .before .before .check-pairing .ensures) in
+    pairing-passed _ _ (p .1) _ (a .0) (c .before .before .weigh-pairs .ensures)
+
+pub weigh-list-spec : {M : Type 1} → statement M
+weigh-list-spec =
+    tie.close
+    (tie.spec
+    check-pairing-requires
+    enum-known-r
+    enum-known-k
+    weigh-pairs-requires
+    returns
+    same-length
+    returns-2)

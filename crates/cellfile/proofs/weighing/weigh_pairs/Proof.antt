@@ -1,0 +1,43 @@
+-- `weigh_pairs` answers refusal 10 or the points.
+use Rattle.cellfile.proofs.Weights.{list-room, pairing-room, pairs-twice, pairs-found}
+use borrow.Author.Needs.{needs}
+use Rattle.cellfile.proofs.weighing.weigh_pairs.Statement.{statement}
+use Rattle.cellfile.proofs.weighing.weigh_pairs.Tie as tie
+use Rattle.cellfile.proofs.weighing.weigh_pairs.Reads as reads
+use Rattle.cellfile.proofs.weighing.weigh_pairs.Lts as lts
+use Rattle.cellfile.proofs.weighing.matched.Reads as matched-reads
+use Rattle.cellfile.proofs.weighing.repeated.Reads as repeated-reads
+
+repeated-requires : tie.Need-repeated-requires
+repeated-requires c κs =
+    let p = c .before .before .before .before .pre in
+    let r = pairing-room _ _ (p .0 .1) (p .1 .1) in
+    (r .0, r .1, p .1 .2)
+
+same-length : tie.Need-same-length
+same-length c = search needs
+
+returns : tie.Need-returns
+returns c =
+    let p = c .before .before .before .before .before .before .before .before .pre in
+    pairs-twice _ _ (p .0 .0) (p .0 .1) (p .1 .0) (p .1 .1) (c .before .before .before .repeated .ensures) (c .if1 .taken)
+
+matched-requires : tie.Need-matched-requires
+matched-requires c κs =
+    let p = c .before .before .before .before .before .before .before .before .pre in
+    let l = list-room _ (p .0 .0) (p .1 .0) in
+    let r = pairing-room _ _ (p .0 .1) (p .1 .1) in
+    (l .0, l .1, r .0, r .1)
+
+same-length-2 : tie.Need-same-length-2
+same-length-2 c = search needs
+
+returns-2 : tie.Need-returns-2
+returns-2 c =
+    let p = c .before .before .before .before .before .before .before .before .before .pre in
+    pairs-found _ _ (p .0 .0) (p .0 .1) (p .1 .0) (p .1 .1) (c .before .before .before .before .repeated .ensures) (c .before .if1 .left) (c .matched .ensures)
+
+pub weigh-pairs-spec : {M : Type 1} → statement M
+weigh-pairs-spec =
+    tie.close
+    (tie.spec repeated-requires same-length returns matched-requires same-length-2 returns-2)

@@ -1,0 +1,103 @@
+-- The files: 'every file starts with 32 bits: kind (4), cells n (11), count m (13), four zero bits'.
+use Prim.Native.Nat.{ℕ, _+_, _*_, _-_, _^_}
+use mathlib.Core.List.{List, [], _∷_, _++_, map}
+use lib.ListN.{length, getD, drop, replicate}
+use Rattle.matching.specs.Pairs.{Pair}
+use Rattle.matching.specs.Listed.{Entry}
+use Rattle.cellfile.specs.Fields.{size, readRecord, writeRecord, readRecords, writeRecords}
+
+-- The fields of the header, and what each of them is.
+abbrev pub header : List ℕ
+header = 4 ∷ 11 ∷ 13 ∷ 4 ∷ []
+
+abbrev pub kindOf : List ℕ → ℕ
+kindOf s = getD (readRecord header s) 0 0
+
+abbrev pub cellsOf : List ℕ → ℕ
+cellsOf s = getD (readRecord header s) 1 0
+
+abbrev pub countOf : List ℕ → ℕ
+countOf s = getD (readRecord header s) 2 0
+
+abbrev pub zerosOf : List ℕ → ℕ
+zerosOf s = getD (readRecord header s) 3 0
+
+-- The layout of a kind: its number, the fields between the header and the entries of a file of n cells,
+-- and the fields of an entry.
+pub record Layout : Type 0 where
+  pub kind : ℕ
+  pub extra : ℕ → List ℕ
+  pub entry : List ℕ
+
+-- Store list: cell a, cell b, points.
+abbrev pub storeList : Layout
+storeList = record { kind = 1; extra = λ n. []; entry = 10 ∷ 10 ∷ 20 ∷ [] }
+
+-- Short list (kernel): after the header the carried points; cell a, cell b, points.
+abbrev pub shortList : Layout
+shortList = record { kind = 2; extra = λ n. 64 ∷ []; entry = 10 ∷ 10 ∷ 44 ∷ [] }
+
+-- Slip (reduction trace): rule, cell.
+abbrev pub slip : Layout
+slip = record { kind = 3; extra = λ n. []; entry = 6 ∷ 10 ∷ [] }
+
+-- Pairing (matching): cell a, cell b, four zero bits.
+abbrev pub pairing : Layout
+pairing = record { kind = 4; extra = λ n. []; entry = 10 ∷ 10 ∷ 4 ∷ [] }
+
+-- Where the entries of a file of n cells start, and how long the file with m entries is.
+abbrev pub start : Layout → ℕ → ℕ
+start l n = 4 + size (l .extra n)
+
+abbrev pub fileLength : Layout → ℕ → ℕ → ℕ
+fileLength l n m = start l n + size (l .entry) * m
+
+-- The largest points that an entry of a list can hold.
+abbrev pub largest : Layout → ℕ
+largest l = 2 ^ getD (l .entry) 2 0 - 1
+
+-- What a file says: its n, the fields after the header, and the fields of each entry.
+pub record File : Type 0 where
+  pub cells : ℕ
+  pub extra : List ℕ
+  pub entries : List (List ℕ)
+
+-- Reading and writing a file.
+abbrev pub readEntries : Layout → List ℕ → List (List ℕ)
+readEntries l s = readRecords (l .entry) (countOf s) (drop (start l (cellsOf s)) s)
+
+abbrev pub readFile : Layout → List ℕ → File
+readFile l s = record {
+  cells = cellsOf s;
+  extra = readRecord (l .extra (cellsOf s)) (drop 4 s);
+  entries = readEntries l s;
+}
+
+abbrev pub writeFile : Layout → File → List ℕ
+writeFile l f =
+    writeRecord header (l .kind ∷ f .cells ∷ length (f .entries) ∷ 0 ∷ [])
+    ++ (writeRecord (l .extra (f .cells)) (f .extra) ++ writeRecords (l .entry) (f .entries))
+
+-- The entries of a list; the steps of a slip, each its rule and its cell; the pairs of a pairing.
+abbrev pub asEntry : List ℕ → Entry
+asEntry r = (getD r 0 0, getD r 1 0, getD r 2 0)
+
+abbrev pub asPair : List ℕ → ℕ × ℕ
+asPair r = (getD r 0 0, getD r 1 0)
+
+abbrev pub entriesOf : Layout → List ℕ → List Entry
+entriesOf l s = map asEntry (readEntries l s)
+
+abbrev pub stepsOf : List ℕ → List (ℕ × ℕ)
+stepsOf s = map asPair (readEntries slip s)
+
+abbrev pub pairsOf : List ℕ → List Pair
+pairsOf s = map asPair (readEntries pairing s)
+
+-- An output after a file was written to it: its first bytes are the file, the others are unchanged.
+abbrev pub onto : List ℕ → List ℕ → List ℕ
+onto file out = file ++ drop (length file) out
+
+-- A work buffer of so many words as every call leaves it.
+abbrev pub zeros : ℕ → List ℕ
+zeros n = replicate n 0

@@ -1,0 +1,30 @@
+// The files of the load-cell store, and weighing a pairing of a store list.
+pub mod decode;
+pub mod form;
+mod weighing;
+pub mod work;
+
+ghost use mathlib.Core.Path.{_≡_};
+ghost use mathlib.Core.List.{_∷_, []};
+ghost use lib.ListN.{length};
+ghost use Rattle.cellfile.specs.Files.{zeros};
+ghost use Rattle.cellfile.specs.Answers.{weighed};
+ghost use Rattle.cellfile.specs.Weigh as specs;
+
+// The answer of weighing: a refusal's number, or the pairing's points.
+pub enum Weighed {
+    Refused(u32),
+    Points(u64),
+}
+
+// Weighs a pairing of the list. Every word of the work buffers is zero afterwards, whatever their lengths.
+pub fn weigh(list: &[u8], pairing: &[u8], work_a: &mut [u64], work_b: &mut [u64]) -> Weighed
+    ensures answer { λ r. ⌜ weighed r ≡ specs.weighing (now (list .entry)) (now (pairing .entry)) (length (now («work_a» .entry)) ∷ length (now («work_b» .entry)) ∷ []) ⌝ }
+    ensures cleared { λ _. ⌜ (now («work_a» .exit) ≡ zeros (length (now («work_a» .entry)))) × (now («work_b» .exit) ≡ zeros (length (now («work_b» .entry)))) ⌝ }
+{
+    let lent_b = work_b.len();
+    let r = weighing::weigh_in(list, pairing, work_a, lent_b);
+    work::clear(work_a);
+    work::clear(work_b);
+    r
+}

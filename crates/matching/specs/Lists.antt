@@ -1,0 +1,24 @@
+-- Tests over lists.
+use mathlib.Core.Bool.{Bool, true, false, _&&_, _||_, not}
+use mathlib.Core.List.{List, [], _∷_}
+use Prim.Native.Nat.{ℕ}
+use lib.Dec.{eqb}
+
+-- Whether every element, or some element, passes the test.
+abbrev pub all : {A : Type 0} → (A → Bool) → List A → Bool
+all t [] = true
+all t (x ∷ xs) = t x && all t xs
+
+abbrev pub any : {A : Type 0} → (A → Bool) → List A → Bool
+any t [] = false
+any t (x ∷ xs) = t x || any t xs
+
+-- Whether the number is in the list.
+abbrev pub mem : ℕ → List ℕ → Bool
+mem c [] = false
+mem c (x ∷ xs) = eqb x c || mem c xs
+
+-- Whether no number stands twice.
+abbrev pub distinct : List ℕ → Bool
+distinct [] = true
+distinct (x ∷ xs) = not (mem x xs) && distinct xs

@@ -1,0 +1,25 @@
+-- A pairing (matching) of a list or graph: 'a set of its pairs in which no cell stands twice, the empty set too'.
+use mathlib.Core.Bool.{Bool, _&&_}
+use mathlib.Core.List.{List, [], _∷_}
+use Prim.Native.Nat.{ℕ, _≤_, _<_}
+use lib.Dec.{ltb}
+use Rattle.matching.specs.Lists.{all, distinct}
+use Rattle.matching.specs.Pairs.{Pair, Points, sum, Each, hit}
+
+-- No cell stands twice.
+abbrev pub Once : List Pair → Type 0
+Once m = (c : ℕ) → sum (hit c) m ≤ 1
+
+-- A pairing of the pairs that `there` counts: of a graph, the pairs above zero points.
+pub record Pairing (there : Points) (m : List Pair) : Type 0 where
+  pub held : Each (λ a b. 0 < there a b) m
+  pub once : Once m
+
+-- The cells of the pairs, one after the other.
+abbrev pub cells : List Pair → List ℕ
+cells [] = []
+cells (e ∷ m) = e .0 ∷ e .1 ∷ cells m
+
+-- The same as a test.
+unfoldable pub isPairing : Points → List Pair → Bool
+isPairing there m = distinct (cells m) && all (λ (e : Pair). ltb 0 (there (e .0) (e .1))) m

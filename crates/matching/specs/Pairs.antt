@@ -1,0 +1,36 @@
+-- Pairs of cells (edges of a graph), and sums over lists of them.
+use mathlib.Core.Bool.{Bool, true, false, _&&_, _||_}
+use mathlib.Core.List.{List, [], _∷_}
+use Prim.Native.Nat.{ℕ, _+_}
+use lib.Dec.{eqb}
+
+-- Two cells.
+abbrev pub Pair : Type 0
+Pair = ℕ × ℕ
+
+-- A number for each two cells: the points (weights) of a graph, or a count.
+abbrev pub Points : Type 0
+Points = ℕ → ℕ → ℕ
+
+-- 1 where the test passes, else 0.
+abbrev pub ι : Bool → ℕ
+ι true = 1
+ι false = 0
+
+-- The sum over a list of pairs.
+abbrev pub sum : Points → List Pair → ℕ
+sum f [] = 0
+sum f (e ∷ m) = f (e .0) (e .1) + sum f m
+
+-- Every pair of the list is as P says.
+abbrev pub Each : (ℕ → ℕ → Type 0) → List Pair → Type 0
+Each P [] = Unit {0}
+Each P (e ∷ m) = P (e .0) (e .1) × Each P m
+
+-- Whether a, b are the cells x, y, in either order.
+abbrev pub same : ℕ → ℕ → ℕ → ℕ → Bool
+same x y a b = (eqb a x && eqb b y) || (eqb a y && eqb b x)
+
+-- How many of a, b are the cell c.
+unfoldable pub hit : ℕ → Points
+hit c a b = ι (eqb a c) + ι (eqb b c)
