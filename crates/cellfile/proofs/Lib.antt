@@ -12,4 +12,5 @@ pub mod Marks
 pub mod Repeated
 pub mod Merge
 pub mod Matched
+pub mod Outputs
 pub mod Weights

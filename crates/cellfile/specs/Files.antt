@@ -95,7 +95,7 @@ abbrev pub pairsOf : List ℕ → List Pair
 pairsOf s = map asPair (readEntries pairing s)
 
 -- An output after a file was written to it: its first bytes are the file, the others are unchanged.
-abbrev pub onto : List ℕ → List ℕ → List ℕ
+unfoldable pub onto : List ℕ → List ℕ → List ℕ
 onto file out = file ++ drop (length file) out
 
 -- A work buffer of so many words as every call leaves it.

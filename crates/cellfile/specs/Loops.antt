@@ -1,16 +1,16 @@
 -- What the contracts of inner functions cite. Nobody has to believe these: laws tie them to the definitions that
 -- promises cite.
-use Prim.Native.Nat.{ℕ, _+_}
+use Prim.Native.Nat.{ℕ, _+_, _<_, _≤_}
 use mathlib.Core.Bool.{Bool, not, cond, _||_}
 use mathlib.Core.List.{List, [], _∷_, _++_, map}
 use lib.Dec.{ltb, eqb}
-use lib.ListN.{getD}
+use lib.ListN.{length, getD}
 use Rattle.matching.specs.Lists.{any}
 use Rattle.matching.specs.Pairs.{Pair}
 use Rattle.matching.specs.Listed.{Entry}
 use Rattle.cellfile.specs.Bytes.{bytes}
 use Rattle.cellfile.specs.Fields.{readRecords, fields}
-use Rattle.cellfile.specs.Files.{Layout, File, storeList, pairing, asEntry, asPair}
+use Rattle.cellfile.specs.Files.{Layout, File, fileLength, storeList, pairing, asEntry, asPair}
 use Rattle.cellfile.specs.Refusals.{strayPair, key, ascendingFrom, noRule, badPair}
 use Rattle.cellfile.specs.declared.Weighed.{Weighed}
 use Rattle.cellfile.specs.declared.Weighed.the-variants.{Refused, Points}
@@ -52,3 +52,10 @@ wordBytes k (w ∷ ws) = bytes k w ++ wordBytes k ws
 -- The file whose entries are words, each the number of a record.
 abbrev pub fileOf : Layout → ℕ → List ℕ → List ℕ → File
 fileOf l n extra words = record { cells = n; extra = extra; entries = map (fields (l .entry)) words }
+
+-- What a writer asks: n and m fit the header, there are m words, and the output has room.
+pub record Writable (l : Layout) (n m : ℕ) (ws out : List ℕ) : Type 0 where
+  pub cells : n < 2048
+  pub count : m < 8192
+  pub words : m ≤ length ws
+  pub room : fileLength l n m ≤ length out

@@ -3,6 +3,7 @@ pub mod decode;
 pub mod form;
 mod weighing;
 pub mod work;
+pub mod write;
 
 ghost use mathlib.Core.Path.{_≡_};
 ghost use mathlib.Core.List.{_∷_, []};

@@ -4,10 +4,6 @@ use Rattle.cellfile.specs.Files.{zeros}
 use borrow.Author.Needs.{needs}
 use Rattle.cellfile.proofs.weigh.Statement.{statement}
 use Rattle.cellfile.proofs.weigh.Tie as tie
-use Rattle.cellfile.proofs.weigh.Reads as reads
-use Rattle.cellfile.proofs.weigh.Lts as lts
-use Rattle.cellfile.proofs.weighing.weigh_in.Reads as weigh-in-reads
-use Rattle.cellfile.proofs.work.clear.Reads as clear-reads
 
 weigh-in-requires : tie.Need-weigh-in-requires
 weigh-in-requires c κs = search needs

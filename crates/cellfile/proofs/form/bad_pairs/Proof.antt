@@ -14,9 +14,6 @@ use borrow.Author.Needs.{needs}
 use native.Mathlib.Omega.{arith}
 use Rattle.cellfile.proofs.form.bad_pairs.Statement.{statement}
 use Rattle.cellfile.proofs.form.bad_pairs.Tie as tie
-use Rattle.cellfile.proofs.form.bad_pairs.Reads as reads
-use Rattle.cellfile.proofs.form.bad_pairs.Lts as lts
-use Rattle.cellfile.proofs.decode.pair_at.Reads as pair-at-reads
 
 abbrev Inv-loop : tie.InvT-loop
 Inv-loop s n m low₀ i₀ low i =

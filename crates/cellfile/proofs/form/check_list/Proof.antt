@@ -11,13 +11,6 @@ use native.Mathlib.Omega.{arith}
 use borrow.Author.Needs.{needs}
 use Rattle.cellfile.proofs.form.check_list.Statement.{statement}
 use Rattle.cellfile.proofs.form.check_list.Tie as tie
-use Rattle.cellfile.proofs.form.check_list.Reads as reads
-use Rattle.cellfile.proofs.form.check_list.Lts as lts
-use Rattle.cellfile.proofs.decode.header_at.Reads as header-at-reads
-use Rattle.cellfile.proofs.form.not_a_list.Reads as not-a-list-reads
-use Rattle.cellfile.proofs.form.stray_entry.Reads as stray-entry-reads
-use Rattle.cellfile.proofs.form.too_large.Reads as too-large-reads
-use Rattle.cellfile.proofs.form.unordered.Reads as unordered-reads
 
 not-a-list-requires : tie.Need-not-a-list-requires
 not-a-list-requires c κs = search needs

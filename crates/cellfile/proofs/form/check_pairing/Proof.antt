@@ -6,11 +6,6 @@ use Rattle.cellfile.proofs.Parts.{head-room, pairing-head, pairing-rest
 use borrow.Author.Needs.{needs}
 use Rattle.cellfile.proofs.form.check_pairing.Statement.{statement}
 use Rattle.cellfile.proofs.form.check_pairing.Tie as tie
-use Rattle.cellfile.proofs.form.check_pairing.Reads as reads
-use Rattle.cellfile.proofs.form.check_pairing.Lts as lts
-use Rattle.cellfile.proofs.decode.header_at.Reads as header-at-reads
-use Rattle.cellfile.proofs.form.bad_pairs.Reads as bad-pairs-reads
-use Rattle.cellfile.proofs.form.wrong_head.Reads as wrong-head-reads
 
 wrong-head-requires : tie.Need-wrong-head-requires
 wrong-head-requires c κs = search needs

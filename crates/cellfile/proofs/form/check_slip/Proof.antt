@@ -6,11 +6,6 @@ use Rattle.cellfile.proofs.Parts.{head-room, slip-head, slip-rest, row-
 use borrow.Author.Needs.{needs}
 use Rattle.cellfile.proofs.form.check_slip.Statement.{statement}
 use Rattle.cellfile.proofs.form.check_slip.Tie as tie
-use Rattle.cellfile.proofs.form.check_slip.Reads as reads
-use Rattle.cellfile.proofs.form.check_slip.Lts as lts
-use Rattle.cellfile.proofs.decode.header_at.Reads as header-at-reads
-use Rattle.cellfile.proofs.form.no_rule.Reads as no-rule-reads
-use Rattle.cellfile.proofs.form.wrong_head.Reads as wrong-head-reads
 
 wrong-head-requires : tie.Need-wrong-head-requires
 wrong-head-requires c κs = search needs

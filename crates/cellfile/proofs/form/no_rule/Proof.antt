@@ -13,9 +13,6 @@ use borrow.Author.Needs.{needs}
 use native.Mathlib.Omega.{arith}
 use Rattle.cellfile.proofs.form.no_rule.Statement.{statement}
 use Rattle.cellfile.proofs.form.no_rule.Tie as tie
-use Rattle.cellfile.proofs.form.no_rule.Reads as reads
-use Rattle.cellfile.proofs.form.no_rule.Lts as lts
-use Rattle.cellfile.proofs.decode.step_at.Reads as step-at-reads
 
 abbrev Inv-loop : tie.InvT-loop
 Inv-loop s m i₀ i = (i ≤ m) × (ruleless (readRecords (slip .entry) m (drop 4 s)) ≡ ruleless (from (slip .entry) s 4 m i))

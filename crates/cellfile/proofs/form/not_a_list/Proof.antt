@@ -5,9 +5,6 @@ use Rattle.cellfile.proofs.Forms.{kind-wrong, kind-right}
 use borrow.Author.Needs.{needs}
 use Rattle.cellfile.proofs.form.not_a_list.Statement.{statement}
 use Rattle.cellfile.proofs.form.not_a_list.Tie as tie
-use Rattle.cellfile.proofs.form.not_a_list.Reads as reads
-use Rattle.cellfile.proofs.form.not_a_list.Lts as lts
-use Rattle.cellfile.proofs.decode.header_at.Reads as header-at-reads
 
 returns : tie.Need-returns
 unfolding notAList

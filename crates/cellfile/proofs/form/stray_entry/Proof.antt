@@ -13,9 +13,6 @@ use borrow.Author.Needs.{needs}
 use native.Mathlib.Omega.{arith}
 use Rattle.cellfile.proofs.form.stray_entry.Statement.{statement}
 use Rattle.cellfile.proofs.form.stray_entry.Tie as tie
-use Rattle.cellfile.proofs.form.stray_entry.Reads as reads
-use Rattle.cellfile.proofs.form.stray_entry.Lts as lts
-use Rattle.cellfile.proofs.decode.entry_at.Reads as entry-at-reads
 
 abbrev Inv-loop : tie.InvT-loop
 Inv-loop list n m i₀ i =

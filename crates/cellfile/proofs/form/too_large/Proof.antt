@@ -3,9 +3,6 @@ use Rattle.cellfile.proofs.Forms.{cells-many, cells-few}
 use borrow.Author.Needs.{needs}
 use Rattle.cellfile.proofs.form.too_large.Statement.{statement}
 use Rattle.cellfile.proofs.form.too_large.Tie as tie
-use Rattle.cellfile.proofs.form.too_large.Reads as reads
-use Rattle.cellfile.proofs.form.too_large.Lts as lts
-use Rattle.cellfile.proofs.decode.header_at.Reads as header-at-reads
 
 header-at-requires : tie.Need-header-at-requires
 header-at-requires c κs = search needs

@@ -15,9 +15,6 @@ use borrow.Author.Needs.{needs}
 use native.Mathlib.Omega.{arith}
 use Rattle.cellfile.proofs.form.unordered.Statement.{statement}
 use Rattle.cellfile.proofs.form.unordered.Tie as tie
-use Rattle.cellfile.proofs.form.unordered.Reads as reads
-use Rattle.cellfile.proofs.form.unordered.Lts as lts
-use Rattle.cellfile.proofs.decode.entry_at.Reads as entry-at-reads
 
 abbrev Inv-loop : tie.InvT-loop
 Inv-loop list m low₀ i₀ low i =

@@ -4,9 +4,6 @@ use native.Mathlib.Omega.{arith}
 use borrow.Author.Needs.{needs}
 use Rattle.cellfile.proofs.form.wrong_head.Statement.{statement}
 use Rattle.cellfile.proofs.form.wrong_head.Tie as tie
-use Rattle.cellfile.proofs.form.wrong_head.Reads as reads
-use Rattle.cellfile.proofs.form.wrong_head.Lts as lts
-use Rattle.cellfile.proofs.decode.header_at.Reads as header-at-reads
 
 returns : tie.Need-returns
 returns c = head-short _ _ _ _ (c .if1 .taken)

@@ -13,10 +13,6 @@ use borrow.Author.Needs.{needs}
 use native.Mathlib.Omega.{arith}
 use Rattle.cellfile.proofs.weighing.matched.Statement.{statement}
 use Rattle.cellfile.proofs.weighing.matched.Tie as tie
-use Rattle.cellfile.proofs.weighing.matched.Reads as reads
-use Rattle.cellfile.proofs.weighing.matched.Lts as lts
-use Rattle.cellfile.proofs.decode.entry_at.Reads as entry-at-reads
-use Rattle.cellfile.proofs.decode.pair_at.Reads as pair-at-reads
 
 abbrev Inv-loop : tie.InvT-loop
 Inv-loop list m other k points₀ i₀ j₀ points i j =

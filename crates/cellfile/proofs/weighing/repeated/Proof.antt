@@ -15,10 +15,6 @@ use borrow.Author.Needs.{needs}
 use native.Mathlib.Omega.{arith}
 use Rattle.cellfile.proofs.weighing.repeated.Statement.{statement}
 use Rattle.cellfile.proofs.weighing.repeated.Tie as tie
-use Rattle.cellfile.proofs.weighing.repeated.Reads as reads
-use Rattle.cellfile.proofs.weighing.repeated.Lts as lts
-use Rattle.cellfile.proofs.decode.pair_at.Reads as pair-at-reads
-use Rattle.cellfile.proofs.work.clear.Reads as clear-reads
 
 abbrev Inv-loop : tie.InvT-loop
 Inv-loop s m marks₀ i₀ marks i =

@@ -6,10 +6,6 @@ use native.Mathlib.Omega.{arith}
 use borrow.Author.Needs.{needs}
 use Rattle.cellfile.proofs.weighing.weigh_in.Statement.{statement}
 use Rattle.cellfile.proofs.weighing.weigh_in.Tie as tie
-use Rattle.cellfile.proofs.weighing.weigh_in.Reads as reads
-use Rattle.cellfile.proofs.weighing.weigh_in.Lts as lts
-use Rattle.cellfile.proofs.form.check_list.Reads as check-list-reads
-use Rattle.cellfile.proofs.weighing.weigh_list.Reads as weigh-list-reads
 
 returns : tie.Need-returns
 returns c = few-first _ _ _ _ (c .if1 .taken)

@@ -5,10 +5,6 @@ use Rattle.cellfile.proofs.Weights.{pairing-refused, pairing-accepted, 
 use borrow.Author.Needs.{needs}
 use Rattle.cellfile.proofs.weighing.weigh_list.Statement.{statement}
 use Rattle.cellfile.proofs.weighing.weigh_list.Tie as tie
-use Rattle.cellfile.proofs.weighing.weigh_list.Reads as reads
-use Rattle.cellfile.proofs.weighing.weigh_list.Lts as lts
-use Rattle.cellfile.proofs.form.check_pairing.Reads as check-pairing-reads
-use Rattle.cellfile.proofs.weighing.weigh_pairs.Reads as weigh-pairs-reads
 
 check-pairing-requires : tie.Need-check-pairing-requires
 check-pairing-requires c κs = search needs

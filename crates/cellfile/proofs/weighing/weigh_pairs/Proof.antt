@@ -3,10 +3,6 @@ use Rattle.cellfile.proofs.Weights.{list-room, pairing-room, pairs-twic
 use borrow.Author.Needs.{needs}
 use Rattle.cellfile.proofs.weighing.weigh_pairs.Statement.{statement}
 use Rattle.cellfile.proofs.weighing.weigh_pairs.Tie as tie
-use Rattle.cellfile.proofs.weighing.weigh_pairs.Reads as reads
-use Rattle.cellfile.proofs.weighing.weigh_pairs.Lts as lts
-use Rattle.cellfile.proofs.weighing.matched.Reads as matched-reads
-use Rattle.cellfile.proofs.weighing.repeated.Reads as repeated-reads
 
 repeated-requires : tie.Need-repeated-requires
 repeated-requires c κs =

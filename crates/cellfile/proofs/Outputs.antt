@@ -1,0 +1,138 @@
+-- Laws of files written into an output. In order: a number written from its last byte on; one part written after another,
+-- `onto-next`; the words of a file, and the files that words make.
+use Prim.Native.Nat.{ℕ, zero, suc, _+_, _*_, _-_, _/_, _%_, _<_, _≤_}
+use mathlib.Core.Path.{_≡_, refl, sym, ap, ap₂, _∙_}
+use mathlib.Core.List.{List, [], _∷_, _++_, map, append-nil, append-assoc}
+use native.Mathlib.Omega.{arith}
+use native.Mathlib.Nat.{mul-suc, mul-le-mul-left}
+use native.Mathlib.Numerals.{add-one}
+use lib.ListN.{length, take, drop, getD, set, length-append, length-drop, length-set, length-map}
+use lib.Seq.{drop-cons, drop-set-lt, getD-set-same, drop-length, take-suc, take-at, drop-at, take-all, drop-drop, length-take-le}
+use borrow.Rule.Slice.PartMut.{putMid, postOf, post-is}
+use Rattle.cellfile.specs.Bytes.{bytes}
+use Rattle.cellfile.specs.Fields.{size, packed, fields, writeRecord, writeRecords}
+use Rattle.cellfile.specs.Files.{Layout, header, slip, pairing, shortList, writeFile, onto}
+use Rattle.cellfile.specs.Fits.{WholeBytes}
+use Rattle.cellfile.specs.Loops.{wordBytes, fileOf}
+use Rattle.cellfile.proofs.Bytes.{length-bytes}
+use Rattle.cellfile.proofs.Fields.{write-fields}
+
+-- ---- a number, from its last byte on
+
+abbrev pub putDown : ℕ → ℕ → List ℕ → List ℕ
+putDown zero v out = out
+putDown (suc k) v out = putDown k (v / 256) (set out k (v % 256))
+
+set-drop : (out : List ℕ) (k x : ℕ) → k < length out → drop k (set out k x) ≡ x ∷ drop (suc k) out
+set-drop out k x h =
+    drop-cons (set out k x) k 0 (rw length-set h) ∙ rw (getD-set-same out k x 0 h, drop-set-lt (suc k) out k x (omega arith))
+
+pub put-down : (k v : ℕ) (out : List ℕ) → k ≤ length out → putDown k v out ≡ onto (bytes k v) out
+unfolding bytes onto
+put-down zero v out h = refl
+put-down (suc k) v out h =
+    put-down k (v / 256) (set out k (v % 256)) (rw length-set (omega arith))
+    ∙ rw (length-bytes k (v / 256), set-drop out k (v % 256) h, length-append, length-bytes k (v / 256), add-one k, append-assoc)
+
+pub down-next : (k v : ℕ) (out : List ℕ) → 0 < k → putDown k v out ≡ putDown (k - 1) (v / 256) (set out (k - 1) (v % 256))
+down-next k v out h =
+    let e : k ≡ suc (k - 1) = omega arith in
+    ap (λ i. putDown i v out) e
+
+-- ---- a part after what was written
+
+pub part-room : (out : List ℕ) (at k : ℕ) → at + k ≤ length out → k ≤ length (take (length out - at) (drop at out))
+part-room out at k h =
+    omega (arith, length-drop at out, length-take-le (length out - at) (drop at out) (omega (arith, length-drop at out)))
+
+module _ (pre xs out₀ out : List ℕ) (at : ℕ) (len : length pre ≡ at) (e : out ≡ onto pre out₀) where
+  room : at ≤ length out
+  unfolding onto
+  room = omega (arith, ap length e, length-append pre (drop (length pre) out₀))
+
+  front : take at out ≡ pre
+  unfolding onto
+  front = rw e (take-at pre (drop (length pre) out₀) at len)
+
+  back : drop at out ≡ drop at out₀
+  unfolding onto
+  back = rw (e, len) (drop-at pre (drop at out₀) at len)
+
+  pub onto-next : {last : List ℕ} → last ≡ onto xs (take (length out - at) (drop at out))
+      → putMid at (length out - at) out last ≡ onto (pre ++ xs) out₀
+  unfolding onto
+  onto-next q =
+      let z : postOf at (length out - at) out ≡ [] = post-is at (length out) out room ∙ drop-length out in
+      let a : take (length out - at) (drop at out) ≡ drop at out₀ =
+      take-all (length out - at) (drop at out) (omega (arith, length-drop at out)) ∙ back in
+      rw (front, z, append-nil, q, a, drop-drop (length xs) at out₀, length-append, len, append-assoc)
+
+-- ---- words
+
+words-append : (k : ℕ) (us vs : List ℕ) → wordBytes k (us ++ vs) ≡ wordBytes k us ++ wordBytes k vs
+unfolding wordBytes
+words-append k [] vs = refl
+words-append k (w ∷ us) vs = rw (words-append k us vs, append-assoc)
+
+length-words : (k : ℕ) (ws : List ℕ) → length (wordBytes k ws) ≡ k * length ws
+unfolding wordBytes
+length-words k [] = omega arith
+length-words k (w ∷ ws) = rw (length-append, length-bytes k w, length-words k ws, mul-suc) (omega arith)
+
+pub words-next : (k : ℕ) (ws : List ℕ) (i : ℕ) → i < length ws
+    → wordBytes k (take i ws) ++ bytes k (getD ws i 0) ≡ wordBytes k (take (i + 1) ws)
+unfolding wordBytes
+words-next k ws i h = sym (rw (add-one, take-suc ws i 0 h, words-append, append-nil))
+
+pub words-room : (k i count at : ℕ) → at ≡ k * i → i < count → at + k ≤ k * count
+words-room k i count at e h = omega (arith, e, mul-suc k i, mul-le-mul-left {m = suc i} {n = count} k h)
+
+pub words-at : (k i at : ℕ) → at ≡ k * i → at + k ≡ k * (i + 1)
+words-at k i at e = rw (add-one, mul-suc, e)
+
+pub length-taken : (k : ℕ) (ws : List ℕ) (i : ℕ) → i ≤ length ws → length (wordBytes k (take i ws)) ≡ k * i
+length-taken k ws i h = length-words k (take i ws) ∙ ap (λ j. k * j) (length-take-le i ws h)
+
+-- words are records
+words-records : (ws words : List ℕ) → WholeBytes ws → wordBytes (size ws) words ≡ writeRecords ws (map (fields ws) words)
+unfolding wordBytes writeRecords
+words-records ws [] whole = refl
+words-records ws (w ∷ words) whole = rw (write-fields ws w whole, words-records ws words whole)
+
+-- a file made of words
+pub file-words : (l : Layout) (n m : ℕ) (extra words : List ℕ) → WholeBytes (l .entry) → m ≤ length words
+    → writeFile l (fileOf l n extra (take m words))
+    ≡ bytes 4 (packed header (l .kind ∷ n ∷ m ∷ 0 ∷ []))
+    ++ (writeRecord (l .extra n) extra ++ wordBytes (size (l .entry)) (take m words))
+file-words l n m extra words whole h =
+    rw (words-records (l .entry) (take m words) whole, length-map, length-take-le m words h)
+
+-- the header's number
+pub header-number : (kind n m : ℕ) → kind * 268435456 + n * 131072 + m * 16 ≡ packed header (kind ∷ n ∷ m ∷ 0 ∷ [])
+unfolding packed
+header-number kind n m = omega arith
+
+-- ---- the files that the writers write: a header, what stands behind it, and the entries
+
+-- nothing between the header and the entries
+pub plain-file : (l : Layout) (n m : ℕ) (words : List ℕ) → WholeBytes (l .entry) → l .extra n ≡ [] → m ≤ length words
+    → bytes 4 (packed header (l .kind ∷ n ∷ m ∷ 0 ∷ [])) ++ wordBytes (size (l .entry)) (take m words)
+    ≡ writeFile l (fileOf l n [] (take m words))
+unfolding bytes
+plain-file l n m words whole e h = sym (file-words l n m [] words whole h ∙ rw e)
+
+pub length-head : (v w : ℕ) → length (bytes 4 v ++ bytes 8 w) ≡ 12
+length-head v w = rw (length-append, length-bytes 4 v, length-bytes 8 w)
+
+one-field : (v : ℕ) → v ≡ packed (64 ∷ []) (v ∷ [])
+unfolding packed
+one-field v = omega arith
+
+-- the carried points between the header and the entries
+pub short-file : (n m carried : ℕ) (words : List ℕ) → m ≤ length words
+    → (bytes 4 (packed header (2 ∷ n ∷ m ∷ 0 ∷ [])) ++ bytes 8 carried) ++ wordBytes 8 (take m words)
+    ≡ writeFile shortList (fileOf shortList n (carried ∷ []) (take m words))
+short-file n m carried words h =
+    append-assoc (bytes 4 (packed header (2 ∷ n ∷ m ∷ 0 ∷ []))) (bytes 8 carried) (wordBytes 8 (take m words))
+    ∙ ap (λ v. bytes 4 (packed header (2 ∷ n ∷ m ∷ 0 ∷ [])) ++ (bytes 8 v ++ wordBytes 8 (take m words))) (one-field carried)
+    ∙ sym (file-words shortList n m (carried ∷ []) words refl h)

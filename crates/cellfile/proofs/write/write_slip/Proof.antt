@@ -1,0 +1,44 @@
+-- `write_slip` writes the header and then the words.
+use mathlib.Core.Path.{_≡_, refl, ap, _∙_}
+use Rattle.cellfile.specs.Files.{slip, onto}
+use Rattle.cellfile.proofs.Bytes.{length-bytes}
+use Rattle.cellfile.proofs.Outputs.{onto-next, plain-file}
+use borrow.Author.Needs.{needs}
+use Rattle.cellfile.proofs.write.write_slip.Statement.{statement}
+use Rattle.cellfile.proofs.write.write_slip.Tie as tie
+
+put-header-requires : tie.Need-put-header-requires
+put-header-requires c κs = search needs
+
+sub-put-words : tie.Need-sub-put-words
+sub-put-words c = search needs
+
+part-put-words-start : tie.Need-part-put-words-start
+part-put-words-start c = search needs
+
+part-put-words-end : tie.Need-part-put-words-end
+part-put-words-end c = search needs
+
+put-words-requires : tie.Need-put-words-requires
+put-words-requires c κs = search needs
+
+same-length : tie.Need-same-length
+same-length c = search needs
+
+returns : tie.Need-returns
+returns c =
+    let a = c .before .before .before .before .before .before .before .before .before .before .args in
+    onto-next _ _ (a .out .now) _ 4 (length-bytes 4 _) (c .before .before .before .before .before .before .put-header .ensures) (c .before .before .put-words .ensures)
+    ∙ ap (λ f. onto f (a .out .now)) (plain-file slip (a .n) (a .m) (a .steps .now) refl refl (c .before .before .before .before .before .before .before .before .before .before .pre .words))
+
+pub write-slip-spec : {M : Type 1} → statement M
+write-slip-spec =
+    tie.close
+    (tie.spec
+    put-header-requires
+    sub-put-words
+    part-put-words-start
+    part-put-words-end
+    put-words-requires
+    same-length
+    returns)

@@ -1,0 +1,83 @@
+// Inner functions that write a file into an output: its first bytes are the file, the others are unchanged. The caller has
+// found that the output has room. Entries come as words, each the number of a record, of which the low bits count.
+ghost use mathlib.Core.Path.{_≡_};
+ghost use mathlib.Core.List.{_∷_, []};
+ghost use Prim.Native.Nat.{_+_, _*_, _≤_, _<_};
+ghost use lib.ListN.{length, take};
+ghost use Rattle.cellfile.specs.Bytes.{bytes};
+ghost use Rattle.cellfile.specs.Fields.{packed};
+ghost use Rattle.cellfile.specs.Files.{header, slip, pairing, shortList, fileLength, writeFile, onto};
+ghost use Rattle.cellfile.specs.Loops.{wordBytes, fileOf, Writable};
+
+const KIND_UNIT: u64 = 268435456;
+
+const CELLS_UNIT: u64 = 131072;
+
+const COUNT_UNIT: u64 = 16;
+
+// The last `size` bytes of the number, most significant first.
+fn put_number(v: u64, size: usize, out: &mut [u8])
+    requires { ⌜ size ≤ length (now out) ⌝ }
+    ensures { λ _. ⌜ now (out .exit) ≡ onto (bytes size v) (now (out .entry)) ⌝ }
+{
+    let mut left = size;
+    let mut rest = v;
+    while 0 < left {
+        left -= 1;
+        out[left] = (rest % 256) as u8;
+        rest /= 256;
+    }
+}
+
+// The last `size` bytes of each of the first `count` words.
+fn put_words(words: &[u64], count: usize, size: usize, out: &mut [u8])
+    requires { ⌜ (count ≤ length (now words)) × (size * count ≤ length (now out)) × (size ≤ 8) × (count < 8192) ⌝ }
+    ensures { λ _. ⌜ now (out .exit) ≡ onto (wordBytes size (take count (now (words .entry)))) (now (out .entry)) ⌝ }
+{
+    let mut i = 0;
+    let mut at = 0;
+    while i < count {
+        put_number(words[i], size, &mut out[at..]);
+        at += size;
+        i += 1;
+    }
+}
+
+fn put_header(kind: u64, n: usize, m: usize, out: &mut [u8])
+    requires { ⌜ (kind < 16) × (n < 2048) × (m < 8192) × (4 ≤ length (now out)) ⌝ }
+    ensures { λ _. ⌜ now (out .exit) ≡ onto (bytes 4 (packed header (kind ∷ n ∷ m ∷ 0 ∷ []))) (now (out .entry)) ⌝ }
+{
+    put_number(
+        kind * KIND_UNIT + n as u64 * CELLS_UNIT + m as u64 * COUNT_UNIT,
+        4,
+        out,
+    );
+}
+
+// A slip of n cells whose steps are the first m words.
+pub fn write_slip(n: usize, steps: &[u64], m: usize, out: &mut [u8])
+    requires { ⌜ Writable slip n m (now steps) (now out) ⌝ }
+    ensures { λ _. ⌜ now (out .exit) ≡ onto (writeFile slip (fileOf slip n [] (take m (now (steps .entry))))) (now (out .entry)) ⌝ }
+{
+    put_header(3, n, m, out);
+    put_words(steps, m, 2, &mut out[4..]);
+}
+
+// A pairing of n cells whose pairs are the first m words.
+pub fn write_pairing(n: usize, pairs: &[u64], m: usize, out: &mut [u8])
+    requires { ⌜ Writable pairing n m (now pairs) (now out) ⌝ }
+    ensures { λ _. ⌜ now (out .exit) ≡ onto (writeFile pairing (fileOf pairing n [] (take m (now (pairs .entry))))) (now (out .entry)) ⌝ }
+{
+    put_header(4, n, m, out);
+    put_words(pairs, m, 3, &mut out[4..]);
+}
+
+// A short list of n cells with its carried points, whose entries are the first m words.
+pub fn write_short(n: usize, carried: u64, entries: &[u64], m: usize, out: &mut [u8])
+    requires { ⌜ Writable shortList n m (now entries) (now out) ⌝ }
+    ensures { λ _. ⌜ now (out .exit) ≡ onto (writeFile shortList (fileOf shortList n (carried ∷ []) (take m (now (entries .entry))))) (now (out .entry)) ⌝ }
+{
+    put_header(2, n, m, out);
+    put_number(carried, 8, &mut out[4..]);
+    put_words(entries, m, 8, &mut out[12..]);
+}
