@@ -1,6 +1,6 @@
--- A call checks its inputs one after the other, each by a function that answers the first of that input's rows. These laws
--- put the answers together: what is refused by some rows is refused by them and any rows after them, and where they refuse
--- nothing the rows after them decide.
+-- A call checks its inputs one after the other, each by a function that answers the first of that input's rows. These
+-- laws put the answers together: what is refused by some rows is refused by them and any rows after them, and where
+-- they refuse nothing the rows after them decide.
 use Prim.Native.Nat.{ℕ, zero, suc, _<_}
 use mathlib.Core.Path.{_≡_, refl, sym, ap, _∙_}
 use mathlib.Core.Bool.{Bool, true, false, cond}

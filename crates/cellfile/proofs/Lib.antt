@@ -14,3 +14,4 @@ pub mod Merge
 pub mod Matched
 pub mod Outputs
 pub mod Weights
+pub mod Worked

@@ -1,5 +1,5 @@
--- Laws of files written into an output. In order: a number written from its last byte on; one part written after another,
--- `onto-next`; the words of a file, and the files that words make.
+-- Laws of files written into an output. In order: a number written from its last byte on; one part written after
+-- another, `onto-next`; the words of a file, and the files that words make.
 use Prim.Native.Nat.{ℕ, zero, suc, _+_, _*_, _-_, _/_, _%_, _<_, _≤_}
 use mathlib.Core.Path.{_≡_, refl, sym, ap, ap₂, _∙_}
 use mathlib.Core.List.{List, [], _∷_, _++_, map, append-nil, append-assoc}
@@ -7,7 +7,8 @@ use native.Mathlib.Omega.{arith}
 use native.Mathlib.Nat.{mul-suc, mul-le-mul-left}
 use native.Mathlib.Numerals.{add-one}
 use lib.ListN.{length, take, drop, getD, set, length-append, length-drop, length-set, length-map}
-use lib.Seq.{drop-cons, drop-set-lt, getD-set-same, drop-length, take-suc, take-at, drop-at, take-all, drop-drop, length-take-le}
+use lib.Seq.{drop-cons, drop-set-lt, getD-set-same, drop-length, drop-at, drop-drop}
+use lib.Seq.{take-suc, take-at, take-all, length-take-le}
 use borrow.Rule.Slice.PartMut.{putMid, postOf, post-is}
 use Rattle.cellfile.specs.Bytes.{bytes}
 use Rattle.cellfile.specs.Fields.{size, packed, fields, writeRecord, writeRecords}

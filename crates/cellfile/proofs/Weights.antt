@@ -16,7 +16,7 @@ use Rattle.cellfile.specs.Fields.{fields}
 use Rattle.cellfile.specs.Files.{storeList, cellsOf, countOf, entriesOf, pairsOf}
 use Rattle.cellfile.specs.Refusals.{Row, first, fewWords, listRows, key, ascendingFrom, badPairing, noPairing}
 use Rattle.cellfile.specs.Answers.{Answer, answer, weighed}
-use Rattle.cellfile.specs.Weigh.{pairingRows, weighing}
+use Rattle.cellfile.specs.Weigh.{formRow, pairRow, weighing}
 use Rattle.cellfile.specs.Fits.{All}
 use Rattle.cellfile.specs.Loops.{entries, pairs, merged}
 use Rattle.cellfile.specs.declared.Weighed.{Weighed}
@@ -26,6 +26,10 @@ use Rattle.cellfile.proofs.Rows.{list-none, too-large-none, wrong-lengt
 use Rattle.cellfile.proofs.Rows.{first-none, bad-pairing-none}
 use Rattle.cellfile.proofs.Layers.{answer-accepted, layer-refused, layer-passed}
 use Rattle.cellfile.proofs.Merge.{merged-is}
+
+-- the rows of the pairing
+abbrev rows : List ℕ → List ℕ → List Row
+rows list pairing = formRow list pairing ∷ pairRow list pairing ∷ []
 
 -- ---- what was accepted
 
@@ -108,7 +112,7 @@ module _ (list pairing : List ℕ) {n : ℕ} (en : n ≡ cellsOf list) where
   nine i = (9, badPairing i pairing) ∷ []
 
   pub pairing-refused : (k : ℕ) (values : List ℕ) → (k, []) ≡ answer (first (nine n)) (n ∷ countOf pairing ∷ [])
-      → (k, []) ≡ answer (first (pairingRows list pairing)) values
+      → (k, []) ≡ answer (first (rows list pairing)) values
   pairing-refused k values e =
       layer-refused (nine (cellsOf list)) (ten (entriesOf storeList list) (pairsOf pairing)) values k n (countOf pairing ∷ [])
       (e ∙ ap (λ i. answer (first (nine i)) (n ∷ countOf pairing ∷ [])) en)
@@ -123,7 +127,7 @@ module _ (list pairing : List ℕ) {n : ℕ} (en : n ≡ cellsOf list) where
 
   pub pairing-passed : {r : Answer} (values : List ℕ) → badPairing (cellsOf list) pairing ≡ false
       → r ≡ answer (first (ten (entriesOf storeList list) (pairsOf pairing))) values
-      → r ≡ answer (first (pairingRows list pairing)) values
+      → r ≡ answer (first (rows list pairing)) values
   pairing-passed values f e = rw f e
 
 -- ---- refusals 2 to 6, from the answer of the list's check
@@ -137,15 +141,15 @@ module _ (list : List ℕ) where
 
   pub list-refused : (pairing : List ℕ) (k : ℕ) (values : List ℕ)
       → (k, []) ≡ answer (first (listRows storeList list)) (cellsOf list ∷ countOf list ∷ [])
-      → (k, []) ≡ answer (first (listRows storeList list ++ pairingRows list pairing)) values
+      → (k, []) ≡ answer (first (listRows storeList list ++ rows list pairing)) values
   list-refused pairing k values e =
-      layer-refused (listRows storeList list) (pairingRows list pairing) values k (cellsOf list) (countOf list ∷ []) e
+      layer-refused (listRows storeList list) (rows list pairing) values k (cellsOf list) (countOf list ∷ []) e
 
   pub list-passed : (pairing : List ℕ) {r : Answer} (values : List ℕ) → first (listRows storeList list) ≡ 0
-      → r ≡ answer (first (pairingRows list pairing)) values
-      → r ≡ answer (first (listRows storeList list ++ pairingRows list pairing)) values
+      → r ≡ answer (first (rows list pairing)) values
+      → r ≡ answer (first (listRows storeList list ++ rows list pairing)) values
   list-passed pairing values f e =
-      layer-passed (listRows storeList list) (pairingRows list pairing) values (omega arith) f e
+      layer-passed (listRows storeList list) (rows list pairing) values (omega arith) f e
 
 -- ---- refusal 1
 
@@ -160,7 +164,7 @@ module _ (list pairing : List ℕ) (a b : ℕ) where
     few-second h = rw (le-ltb a 8192 enough, lt-ltb b 8192 h)
 
     pub enough-words : 8192 ≤ b → {r : Answer}
-        → r ≡ answer (first (listRows storeList list ++ pairingRows list pairing))
+        → r ≡ answer (first (listRows storeList list ++ rows list pairing))
         (points (entriesOf storeList list) (pairsOf pairing) ∷ [])
         → r ≡ weighing list pairing (a ∷ b ∷ [])
     unfolding fewWords

@@ -1,5 +1,6 @@
 -- The files: 'every file starts with 32 bits: kind (4), cells n (11), count m (13), four zero bits'.
 use Prim.Native.Nat.{ℕ, _+_, _*_, _-_, _^_}
+use mathlib.Core.Path.{_≡_}
 use mathlib.Core.List.{List, [], _∷_, _++_, map}
 use lib.ListN.{length, getD, drop, replicate}
 use Rattle.matching.specs.Pairs.{Pair}
@@ -98,6 +99,12 @@ pairsOf s = map asPair (readEntries pairing s)
 unfoldable pub onto : List ℕ → List ℕ → List ℕ
 onto file out = file ++ drop (length file) out
 
--- A work buffer of so many words as every call leaves it.
+-- The lengths of the work buffers lent to a call, and such a buffer as every call leaves it.
+abbrev pub lent : List ℕ → List ℕ → List ℕ
+lent a b = length a ∷ length b ∷ []
+
 abbrev pub zeros : ℕ → List ℕ
 zeros n = replicate n 0
+
+abbrev pub Cleared : List ℕ → List ℕ → Type 0
+Cleared before after = after ≡ zeros (length before)

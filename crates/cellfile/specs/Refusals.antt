@@ -1,16 +1,17 @@
 -- 'Refusals in checking order. Each is checked where the call has that input; the first that holds is the answer.'
 -- One row for each number. A call's refusal is the first of its rows; the rows are the same for every call.
-use Prim.Native.Nat.{ℕ, zero, suc, _+_, _*_}
+use Prim.Native.Nat.{ℕ, suc, _+_, _*_}
 use mathlib.Core.Bool.{Bool, true, not, cond, _&&_, _||_}
 use mathlib.Core.List.{List, [], _∷_, map}
 use lib.Dec.{ltb, leb, eqb}
 use lib.ListN.{length, getD}
-use Rattle.matching.specs.Lists.{all, any}
+use Rattle.matching.specs.Lists.{any}
 use Rattle.matching.specs.Pairs.{Pair, Points}
 use Rattle.matching.specs.Pairing.{isPairing}
 use Rattle.matching.specs.Listed.{Entry}
 use Rattle.cellfile.specs.Fields.{size}
-use Rattle.cellfile.specs.Files.{Layout, slip, pairing, kindOf, cellsOf, countOf, zerosOf, fileLength, readEntries, entriesOf, stepsOf}
+use Rattle.cellfile.specs.Files.{kindOf, cellsOf, countOf, zerosOf}
+use Rattle.cellfile.specs.Files.{Layout, slip, pairing, fileLength, readEntries, entriesOf, stepsOf}
 
 -- A row: the refusal's number, and whether its condition holds.
 abbrev pub Row : Type 0
@@ -56,7 +57,13 @@ unfoldable pub unordered : Layout → List ℕ → Bool
 unordered l s = not (ascendingFrom 0 (map (λ (e : Entry). key (e .0) (e .1)) (entriesOf l s)))
 
 abbrev pub listRows : Layout → List ℕ → List Row
-listRows l s = (2, notAList l s) ∷ (3, tooLarge s) ∷ (4, wrongLength l s) ∷ (5, strayEntry l s) ∷ (6, unordered l s) ∷ []
+listRows l s =
+    (2, notAList l s)
+    ∷ (3, tooLarge s)
+    ∷ (4, wrongLength l s)
+    ∷ (5, strayEntry l s)
+    ∷ (6, unordered l s)
+    ∷ []
 
 -- 7 and 9: 'shorter than 4 bytes, or of wrong kind, n, length or zero bits'.
 unfoldable pub misheaded : ℕ → ℕ → ℕ → List ℕ → Bool

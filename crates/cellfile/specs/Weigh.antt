@@ -6,13 +6,20 @@ use Rattle.cellfile.specs.Files.{storeList, cellsOf, entriesOf, pairsOf}
 use Rattle.cellfile.specs.Refusals.{Row, first, fewWords, listRows, badPairing, noPairing}
 use Rattle.cellfile.specs.Answers.{Answer, answer}
 
--- Refusals 9 and 10 of a pairing of the list's entries, of zero points too.
-abbrev pub pairingRows : List ℕ → List ℕ → List Row
-pairingRows list pairing =
-    (9, badPairing (cellsOf list) pairing) ∷ (10, noPairing (joined (entriesOf storeList list)) (pairsOf pairing)) ∷ []
+-- Refusals 9 and 10 of a pairing. It is for the entries of the list, those of zero points too.
+abbrev pub formRow : List ℕ → List ℕ → Row
+formRow list pairing = (9, badPairing (cellsOf list) pairing)
 
--- What weighing answers for the list, the pairing and the lengths of the work buffers: the pairing's points.
+abbrev pub pairRow : List ℕ → List ℕ → Row
+pairRow list pairing = (10, noPairing (joined (entriesOf storeList list)) (pairsOf pairing))
+
+-- The pairing's points, as the one value of the answer.
+abbrev pub weight : List ℕ → List ℕ → List ℕ
+weight list pairing = points (entriesOf storeList list) (pairsOf pairing) ∷ []
+
+-- What weighing answers for the list, the pairing and the lengths of the work buffers lent.
 abbrev pub weighing : List ℕ → List ℕ → List ℕ → Answer
-weighing list pairing lent =
-    answer (first ((1, fewWords lent) ∷ (listRows storeList list ++ pairingRows list pairing)))
-    (points (entriesOf storeList list) (pairsOf pairing) ∷ [])
+weighing list pairing lent = answer (first rows) (weight list pairing)
+  where
+    rows : List Row
+    rows = (1, fewWords lent) ∷ (listRows storeList list ++ (formRow list pairing ∷ pairRow list pairing ∷ []))

@@ -7,7 +7,8 @@ ghost use Prim.Native.Nat.{_+_, _*_, _≤_, _<_};
 ghost use lib.ListN.{length, drop};
 ghost use Rattle.cellfile.specs.Fields.{readRecords};
 ghost use Rattle.cellfile.specs.Files.{storeList, slip as slipLayout, pairing as pairingLayout, cellsOf, countOf};
-ghost use Rattle.cellfile.specs.Refusals.{first, listRows, notAList, tooLarge, ascendingFrom, misheaded, badSlip, badPairing};
+ghost use Rattle.cellfile.specs.Refusals.{first, listRows, notAList, tooLarge, ascendingFrom};
+ghost use Rattle.cellfile.specs.Refusals.{misheaded, badSlip, badPairing};
 ghost use Rattle.cellfile.specs.Answers.{answer, checked};
 ghost use Rattle.cellfile.specs.Loops.{stray, keys, ruleless, badPairs};
 
@@ -69,7 +70,8 @@ fn stray_entry(list: &[u8], n: usize, m: usize) -> bool
 // Refusal 6.
 fn unordered(list: &[u8], m: usize) -> bool
     requires { ⌜ (m ≤ 4096) × (4 + 5 * m ≤ length (now list)) ⌝ }
-    ensures { λ r. ⌜ r ≡ not (ascendingFrom 0 (keys (readRecords (storeList .entry) m (drop 4 (now (list .entry)))))) ⌝ }
+    ensures { λ r. ⌜ r
+        ≡ not (ascendingFrom 0 (keys (readRecords (storeList .entry) m (drop 4 (now (list .entry)))))) ⌝ }
 {
     let mut low: usize = 0;
     let mut i = 0;
@@ -88,7 +90,8 @@ fn unordered(list: &[u8], m: usize) -> bool
 
 // Refusals 2 to 6.
 pub fn check_list(list: &[u8]) -> Checked
-    ensures { λ r. ⌜ checked r ≡ answer (first (listRows storeList (now (list .entry)))) (cellsOf (now (list .entry)) ∷ countOf (now (list .entry)) ∷ []) ⌝ }
+    ensures { λ r. ⌜ checked r ≡ answer (first (listRows storeList (now (list .entry))))
+        (cellsOf (now (list .entry)) ∷ countOf (now (list .entry)) ∷ []) ⌝ }
 {
     if not_a_list(list) {
         return Checked::Refused(2);
@@ -183,7 +186,8 @@ fn bad_pairs(pairing: &[u8], n: usize, m: usize) -> bool
 
 // Refusal 7, of a slip for a list of n cells.
 pub fn check_slip(slip: &[u8], n: usize) -> Checked
-    ensures { λ r. ⌜ checked r ≡ answer (first ((7, badSlip n (now (slip .entry))) ∷ [])) (n ∷ countOf (now (slip .entry)) ∷ []) ⌝ }
+    ensures { λ r. ⌜ checked r ≡ answer (first ((7, badSlip n (now (slip .entry))) ∷ []))
+        (n ∷ countOf (now (slip .entry)) ∷ []) ⌝ }
 {
     if wrong_head(slip, 3, 2, n) {
         return Checked::Refused(7);
@@ -198,7 +202,8 @@ pub fn check_slip(slip: &[u8], n: usize) -> Checked
 
 // Refusal 9, of a pairing for a list of n cells.
 pub fn check_pairing(pairing: &[u8], n: usize) -> Checked
-    ensures { λ r. ⌜ checked r ≡ answer (first ((9, badPairing n (now (pairing .entry))) ∷ [])) (n ∷ countOf (now (pairing .entry)) ∷ []) ⌝ }
+    ensures { λ r. ⌜ checked r ≡ answer (first ((9, badPairing n (now (pairing .entry))) ∷ []))
+        (n ∷ countOf (now (pairing .entry)) ∷ []) ⌝ }
 {
     if wrong_head(pairing, 4, 3, n) {
         return Checked::Refused(9);

@@ -6,9 +6,7 @@ pub mod work;
 pub mod write;
 
 ghost use mathlib.Core.Path.{_≡_};
-ghost use mathlib.Core.List.{_∷_, []};
-ghost use lib.ListN.{length};
-ghost use Rattle.cellfile.specs.Files.{zeros};
+ghost use Rattle.cellfile.specs.Files.{lent, Cleared};
 ghost use Rattle.cellfile.specs.Answers.{weighed};
 ghost use Rattle.cellfile.specs.Weigh as specs;
 
@@ -20,8 +18,10 @@ pub enum Weighed {
 
 // Weighs a pairing of the list. Every word of the work buffers is zero afterwards, whatever their lengths.
 pub fn weigh(list: &[u8], pairing: &[u8], work_a: &mut [u64], work_b: &mut [u64]) -> Weighed
-    ensures answer { λ r. ⌜ weighed r ≡ specs.weighing (now (list .entry)) (now (pairing .entry)) (length (now («work_a» .entry)) ∷ length (now («work_b» .entry)) ∷ []) ⌝ }
-    ensures cleared { λ _. ⌜ (now («work_a» .exit) ≡ zeros (length (now («work_a» .entry)))) × (now («work_b» .exit) ≡ zeros (length (now («work_b» .entry)))) ⌝ }
+    ensures answer { λ r. ⌜ weighed r ≡ specs.weighing (now (list .entry)) (now (pairing .entry))
+        (lent (now («work_a» .entry)) (now («work_b» .entry))) ⌝ }
+    ensures cleared { λ _. ⌜ Cleared (now («work_a» .entry)) (now («work_a» .exit))
+        × Cleared (now («work_b» .entry)) (now («work_b» .exit)) ⌝ }
 {
     let lent_b = work_b.len();
     let r = weighing::weigh_in(list, pairing, work_a, lent_b);

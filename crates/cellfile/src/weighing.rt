@@ -11,11 +11,10 @@ ghost use Prim.Native.Nat.{_+_, _*_, _≤_, _<_};
 ghost use lib.ListN.{length, drop};
 ghost use Rattle.matching.specs.Lists.{distinct};
 ghost use Rattle.matching.specs.Pairing.{cells};
-ghost use Rattle.matching.specs.Listed.{joined, points};
-ghost use Rattle.cellfile.specs.Files.{storeList, cellsOf, countOf, entriesOf, pairsOf};
-ghost use Rattle.cellfile.specs.Refusals.{first, listRows, badPairing, noPairing};
+ghost use Rattle.cellfile.specs.Files.{storeList, cellsOf, countOf, lent};
+ghost use Rattle.cellfile.specs.Refusals.{first, listRows, badPairing};
 ghost use Rattle.cellfile.specs.Answers.{answer, weighed};
-ghost use Rattle.cellfile.specs.Weigh.{pairingRows, weighing};
+ghost use Rattle.cellfile.specs.Weigh.{formRow, pairRow, weight, weighing};
 ghost use Rattle.cellfile.specs.Loops.{entries, pairs, merged};
 
 const WORDS: usize = 8192;
@@ -77,9 +76,11 @@ fn matched(list: &[u8], m: usize, pairing: &[u8], k: usize) -> Weighed
 
 // Refusal 10 and the points of a pairing that has passed 9, for a list that has passed 2 to 6.
 fn weigh_pairs(list: &[u8], m: usize, pairing: &[u8], k: usize, marks: &mut [u64]) -> Weighed
-    requires { ⌜ (first (listRows storeList (now list)) ≡ 0) × (badPairing (cellsOf (now list)) (now pairing) ≡ false) ⌝ }
+    requires { ⌜ (first (listRows storeList (now list)) ≡ 0)
+        × (badPairing (cellsOf (now list)) (now pairing) ≡ false) ⌝ }
     requires { ⌜ (m ≡ countOf (now list)) × (k ≡ countOf (now pairing)) × (1024 ≤ length (now marks)) ⌝ }
-    ensures { λ r. ⌜ weighed r ≡ answer (first ((10, noPairing (joined (entriesOf storeList (now (list .entry)))) (pairsOf (now (pairing .entry)))) ∷ [])) (points (entriesOf storeList (now (list .entry))) (pairsOf (now (pairing .entry))) ∷ []) ⌝ }
+    ensures { λ r. ⌜ weighed r ≡ answer (first (pairRow (now (list .entry)) (now (pairing .entry)) ∷ []))
+        (weight (now (list .entry)) (now (pairing .entry))) ⌝ }
 {
     if repeated(pairing, k, marks) {
         return Weighed::Refused(10);
@@ -89,8 +90,12 @@ fn weigh_pairs(list: &[u8], m: usize, pairing: &[u8], k: usize, marks: &mut [u64
 
 // Refusals 9 and 10 and the points, for a list that has passed 2 to 6.
 fn weigh_list(list: &[u8], n: usize, m: usize, pairing: &[u8], marks: &mut [u64]) -> Weighed
-    requires { ⌜ (first (listRows storeList (now list)) ≡ 0) × (n ≡ cellsOf (now list)) × (m ≡ countOf (now list)) × (1024 ≤ length (now marks)) ⌝ }
-    ensures { λ r. ⌜ weighed r ≡ answer (first (pairingRows (now (list .entry)) (now (pairing .entry)))) (points (entriesOf storeList (now (list .entry))) (pairsOf (now (pairing .entry))) ∷ []) ⌝ }
+    requires { ⌜ (first (listRows storeList (now list)) ≡ 0) × (n ≡ cellsOf (now list)) × (m ≡ countOf (now list))
+        × (1024 ≤ length (now marks)) ⌝ }
+    ensures { λ r. ⌜ weighed r
+        ≡ answer (first (formRow (now (list .entry)) (now (pairing .entry))
+        ∷ pairRow (now (list .entry)) (now (pairing .entry)) ∷ []))
+        (weight (now (list .entry)) (now (pairing .entry))) ⌝ }
 {
     match form::check_pairing(pairing, n) {
         Checked::Refused(r) => Weighed::Refused(r),
@@ -100,7 +105,8 @@ fn weigh_list(list: &[u8], n: usize, m: usize, pairing: &[u8], marks: &mut [u64]
 
 // Weighing, which leaves anything in the first work buffer; the second has `lent_b` words.
 pub fn weigh_in(list: &[u8], pairing: &[u8], work_a: &mut [u64], lent_b: usize) -> Weighed
-    ensures { λ r. ⌜ weighed r ≡ weighing (now (list .entry)) (now (pairing .entry)) (length (now («work_a» .entry)) ∷ «lent_b» ∷ []) ⌝ }
+    ensures { λ r. ⌜ weighed r ≡ weighing (now (list .entry)) (now (pairing .entry))
+        (length (now («work_a» .entry)) ∷ «lent_b» ∷ []) ⌝ }
 {
     if work_a.len() < WORDS {
         return Weighed::Refused(1);

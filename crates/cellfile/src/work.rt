@@ -1,11 +1,9 @@
 // An inner function that clears a work buffer.
-ghost use mathlib.Core.Path.{_≡_};
-ghost use lib.ListN.{length};
-ghost use Rattle.cellfile.specs.Files.{zeros};
+ghost use Rattle.cellfile.specs.Files.{Cleared};
 
 // Every word is zero afterwards, whatever the length.
 pub fn clear(work: &mut [u64])
-    ensures { λ _. ⌜ now (work .exit) ≡ zeros (length (now (work .entry))) ⌝ }
+    ensures { λ _. ⌜ Cleared (now (work .entry)) (now (work .exit)) ⌝ }
 {
     let mut i = 0;
     while i < work.len() {

@@ -1,5 +1,5 @@
-// Inner functions that write a file into an output: its first bytes are the file, the others are unchanged. The caller has
-// found that the output has room. Entries come as words, each the number of a record, of which the low bits count.
+// Inner functions that write a file into an output: its first bytes are the file, the others are unchanged. The caller
+// has found that the output has room. Entries come as words, each the number of a record, of which the low bits count.
 ghost use mathlib.Core.Path.{_≡_};
 ghost use mathlib.Core.List.{_∷_, []};
 ghost use Prim.Native.Nat.{_+_, _*_, _≤_, _<_};
@@ -57,7 +57,8 @@ fn put_header(kind: u64, n: usize, m: usize, out: &mut [u8])
 // A slip of n cells whose steps are the first m words.
 pub fn write_slip(n: usize, steps: &[u64], m: usize, out: &mut [u8])
     requires { ⌜ Writable slip n m (now steps) (now out) ⌝ }
-    ensures { λ _. ⌜ now (out .exit) ≡ onto (writeFile slip (fileOf slip n [] (take m (now (steps .entry))))) (now (out .entry)) ⌝ }
+    ensures { λ _. ⌜ now (out .exit)
+        ≡ onto (writeFile slip (fileOf slip n [] (take m (now (steps .entry))))) (now (out .entry)) ⌝ }
 {
     put_header(3, n, m, out);
     put_words(steps, m, 2, &mut out[4..]);
@@ -66,7 +67,8 @@ pub fn write_slip(n: usize, steps: &[u64], m: usize, out: &mut [u8])
 // A pairing of n cells whose pairs are the first m words.
 pub fn write_pairing(n: usize, pairs: &[u64], m: usize, out: &mut [u8])
     requires { ⌜ Writable pairing n m (now pairs) (now out) ⌝ }
-    ensures { λ _. ⌜ now (out .exit) ≡ onto (writeFile pairing (fileOf pairing n [] (take m (now (pairs .entry))))) (now (out .entry)) ⌝ }
+    ensures { λ _. ⌜ now (out .exit)
+        ≡ onto (writeFile pairing (fileOf pairing n [] (take m (now (pairs .entry))))) (now (out .entry)) ⌝ }
 {
     put_header(4, n, m, out);
     put_words(pairs, m, 3, &mut out[4..]);
@@ -75,7 +77,9 @@ pub fn write_pairing(n: usize, pairs: &[u64], m: usize, out: &mut [u8])
 // A short list of n cells with its carried points, whose entries are the first m words.
 pub fn write_short(n: usize, carried: u64, entries: &[u64], m: usize, out: &mut [u8])
     requires { ⌜ Writable shortList n m (now entries) (now out) ⌝ }
-    ensures { λ _. ⌜ now (out .exit) ≡ onto (writeFile shortList (fileOf shortList n (carried ∷ []) (take m (now (entries .entry))))) (now (out .entry)) ⌝ }
+    ensures { λ _. ⌜ now (out .exit)
+        ≡ onto (writeFile shortList (fileOf shortList n (carried ∷ []) (take m (now (entries .entry)))))
+        (now (out .entry)) ⌝ }
 {
     put_header(2, n, m, out);
     put_number(carried, 8, &mut out[4..]);

@@ -1,0 +1,73 @@
+// The worked lists that are compared by running the calls: those that concern sizes, each weighed with the empty pairing.
+use cellfile::Weighed;
+ghost use mathlib.Core.Path.{_≡_};
+ghost use Prim.Native.Nat.{_+_, _*_, _≤_};
+ghost use lib.ListN.{length};
+
+fn line(name: &[u8], answer: &[u8], value: u64) {
+    io::write_all(1, name);
+    io::write_all(1, answer);
+    io::print_decimal(1, value);
+    io::write_all(1, b"\n");
+}
+
+// Weighs the empty pairing `none` of the list and writes the answer.
+fn show(name: &[u8], list: &[u8], none: &[u8]) {
+    let mut work_a = [0u64; 8192];
+    let mut work_b = [0u64; 8192];
+    match cellfile::weigh(list, none, &mut work_a, &mut work_b) {
+        Weighed::Refused(k) => line(name, b"refused ", k as u64),
+        Weighed::Points(p) => line(name, b"points ", p),
+    }
+}
+
+// Writes the entries 0-512, 0-513, .., 0-1023, 1-512, .., of no points: m of them from the fifth byte on.
+fn fill(list: &mut [u8], m: usize)
+    requires { ⌜ (m ≤ 4097) × (4 + 5 * m ≤ length (now list)) ⌝ }
+    ensures { λ _. ⌜ length (now (list .exit)) ≡ length (now (list .entry)) ⌝ }
+{
+    let mut i = 0;
+    while i < m {
+        let at = 4 + 5 * i;
+        let cells = i / 512 * 1024 + 512 + i % 512;
+        list[at] = (cells / 4096 % 256) as u8;
+        list[at + 1] = (cells / 16 % 256) as u8;
+        list[at + 2] = (cells % 16 * 16) as u8;
+        i += 1;
+    }
+}
+
+// Shows the list of 1,024 cells with m such entries; `last` is the last byte of its header.
+fn show_large(name: &[u8], m: usize, last: u8, list: &mut [u8])
+    requires { ⌜ (m ≤ 4097) × (4 + 5 * m ≤ length (now list)) ⌝ }
+{
+    fill(list, m);
+    list[0] = 0x18;
+    list[1] = 0x01;
+    list[2] = 0x00;
+    list[3] = last;
+    let end = 4 + 5 * m;
+    show(name, &list[0..end], b"\x48\x00\x00\x00");
+}
+
+fn main() {
+    show(
+        b"n 1024, cell 1023: ",
+        b"\x18\x00\x00\x10\x00\x3F\xF0\x00\x07",
+        b"\x48\x00\x00\x00",
+    );
+    show(
+        b"n 1023, cell 1023: ",
+        b"\x17\xFE\x00\x10\x00\x3F\xF0\x00\x07",
+        b"\x47\xFE\x00\x00",
+    );
+    show(
+        b"n 1025: ",
+        b"\x18\x02\x00\x10\x00\x3F\xF0\x00\x07",
+        b"\x48\x02\x00\x00",
+    );
+    let mut list = [0u8; 20489];
+    show_large(b"m 4096: ", 4096, 0x00, &mut list);
+    let mut longer = [0u8; 20489];
+    show_large(b"m 4097: ", 4097, 0x10, &mut longer);
+}

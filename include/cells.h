@@ -1,0 +1,31 @@
+/* Load-cell pairing: the calls for C.
+ *
+ * Conventions of every call: the inputs come first, then the work buffers, then the outputs, each as a pointer
+ * and a length; the numbers answered go to the uint64_t pointers at the end. A call returns 0, or the number of
+ * the first refusal that holds; on refusal no output and no number is changed. Work buffers are of 64-bit words;
+ * whatever their lengths, all their words are zero after every call. Buffers must not overlap.
+ */
+#ifndef CELLS_H
+#define CELLS_H
+
+#include <stddef.h>
+#include <stdint.h>
+
+#ifdef __cplusplus
+extern "C" {
+#endif
+
+/* Weighs a pairing (kind 4) of a store list (kind 1): *points is the sum of its pairs' points in the list.
+ * Refusals: 1 (a work buffer of fewer than 8,192 words), 2 to 6 (the list), 9 (the pairing's form),
+ * 10 (a cell twice, or a pair that is no entry of the list). */
+uint32_t cells_weigh(const uint8_t *list, size_t list_len,
+                     const uint8_t *pairing, size_t pairing_len,
+                     uint64_t *work_a, size_t work_a_len,
+                     uint64_t *work_b, size_t work_b_len,
+                     uint64_t *points);
+
+#ifdef __cplusplus
+}
+#endif
+
+#endif
