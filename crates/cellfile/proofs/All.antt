@@ -1,15 +1,11 @@
--- Laws of `All`, that every element of a list is as P says: of two lists joined, of the end of one, of one element;
+-- Laws of `All`, that every element of a list is as P says: of the end of a list, of one element;
 -- where P says more than Q; of the values of a function.
 use Prim.Native.Nat.{ℕ, zero, suc}
-use mathlib.Core.List.{List, [], _∷_, _++_, map}
+use mathlib.Core.List.{List, [], _∷_, map}
 use lib.ListN.{getD, drop}
-use Rattle.cellfile.specs.Fits.{All}
+use Rattle.matching.specs.Lists.{All}
 
 module _ {A : Type 0} (P : A → Type 0) where
-  pub all-append : (s t : List A) → All P s → All P t → All P (s ++ t)
-  all-append [] t a b = b
-  all-append (x ∷ s) t a b = (a .0, all-append s t (a .1) b)
-
   pub all-drop : (n : ℕ) (s : List A) → All P s → All P (drop n s)
   all-drop zero s a = a
   all-drop (suc n) [] a = a

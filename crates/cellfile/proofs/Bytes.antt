@@ -1,16 +1,16 @@
--- Laws of numbers as bytes. In order: what `bytes` writes, and that it writes the low bytes only; the bound of
--- `number`; that each undoes the other, `number-bytes` and `bytes-number`.
+-- Laws of numbers as bytes. In order: what `bytes` writes, and that it writes the low bytes only;
+-- that each undoes the other, `number-bytes` and `bytes-number`.
 use Prim.Native.Nat.{ℕ, zero, suc, _+_, _*_, _/_, _%_, _^_, _≤_, _<_}
 use mathlib.Core.Path.{_≡_, refl, sym, ap, _∙_}
 use mathlib.Core.List.{List, [], _∷_, _++_, append-assoc}
 use native.Mathlib.Omega.{arith}
 use native.Mathlib.Nat.{pow-suc, one-le-pow, mod-one}
-use lib.Arith.{digits-lt, digits-div, digits-mod, mod-mul}
+use lib.Arith.{digits-div, digits-mod, mod-mul}
 use lib.ListN.{length, getD, take, length-append}
 use lib.Seq.{take-suc, getD-at}
 use Rattle.cellfile.specs.Bytes.{number, bytes}
 use Rattle.cellfile.specs.Fits.{AreBytes}
-use Rattle.cellfile.proofs.All.{all-append, all-getD}
+use Rattle.cellfile.proofs.All.{all-getD}
 
 -- a missing byte counts as 0
 byte-lt : (s : List ℕ) (i : ℕ) → AreBytes s → getD s i 0 < 256
@@ -21,12 +21,6 @@ unfolding bytes
 length-bytes zero v = refl
 length-bytes (suc k) v =
     omega (arith, length-append (bytes k (v / 256)) (v % 256 ∷ []), length-bytes k (v / 256))
-
-pub bytes-are : (k v : ℕ) → AreBytes (bytes k v)
-unfolding bytes
-bytes-are zero v = tt
-bytes-are (suc k) v =
-    all-append (λ (b : ℕ). b < 256) (bytes k (v / 256)) (v % 256 ∷ []) (bytes-are k (v / 256)) (omega arith, tt)
 
 -- a byte more, behind the others
 bytes-suc : (k q : ℕ) {r : ℕ} → r < 256 → bytes (suc k) (q * 256 + r) ≡ bytes k q ++ (r ∷ [])
@@ -42,11 +36,6 @@ unfolding bytes
 bytes-mod zero v = refl
 bytes-mod (suc k) v =
     ap (bytes (suc k)) (mod-suc k v) ∙ bytes-suc k (v / 256 % 256 ^ k) (omega arith) ∙ rw (bytes-mod k (v / 256))
-
-pub number-lt : (k : ℕ) (s : List ℕ) → AreBytes s → number k s < 256 ^ k
-unfolding number
-number-lt zero s a = omega arith
-number-lt (suc k) s a = rw (pow-suc 256 k) (digits-lt (number-lt k s a) (byte-lt s k a))
 
 pub number-bytes : (k v : ℕ) (t : List ℕ) → number k (bytes k v ++ t) ≡ v % 256 ^ k
 unfolding number bytes

@@ -4,7 +4,7 @@ use Prim.Native.Nat.{ℕ, zero, suc, _+_, _*_, _/_, _%_, _^_, _≤_, _<_}
 use mathlib.Core.Path.{_≡_, refl, sym, ap, _∙_}
 use mathlib.Core.List.{List, [], _∷_, _++_, append-assoc}
 use native.Mathlib.Omega.{arith}
-use native.Mathlib.Nat.{pow-suc, mul-assoc, mul-zero, mul-suc, mod-one, mod-lt, mod-eq-of-lt}
+use native.Mathlib.Nat.{pow-suc, mul-assoc, mul-zero, mul-suc, mod-one, mod-eq-of-lt}
 use native.Mathlib.Nat.{mul-add-div-right, mul-add-mod-self-right}
 use lib.Arith.{digits-lt}
 use lib.Pow.{pow-pos, pow-add, high, mod-pow-add}
@@ -12,7 +12,8 @@ use lib.ListN.{length, take, drop, length-append, length-drop}
 use lib.Seq.{take-add, drop-at}
 use Rattle.cellfile.specs.Bytes.{number, bytes}
 use Rattle.cellfile.specs.Fields.{bits, size, fields, packed, readRecord, writeRecord, readRecords, writeRecords}
-use Rattle.cellfile.specs.Fits.{All, AreBytes, FitsFields, WholeBytes}
+use Rattle.matching.specs.Lists.{All}
+use Rattle.cellfile.specs.Fits.{AreBytes, FitsFields, WholeBytes}
 use Rattle.cellfile.proofs.All.{all-drop}
 use Rattle.cellfile.proofs.Bytes.{length-bytes, number-bytes, bytes-number, bytes-mod}
 
@@ -56,11 +57,6 @@ pub packed-fields : (ws : List ℕ) (v : ℕ) → packed ws (fields ws v) ≡ v 
 unfolding fields packed
 packed-fields [] v = sym (mod-one v)
 packed-fields (w ∷ ws) v = rw (packed-fields ws v) (sym (mod-pow-add v w (bits ws)))
-
-pub fields-fit : (ws : List ℕ) (v : ℕ) → FitsFields ws (fields ws v)
-unfolding fields
-fields-fit [] v = tt
-fields-fit (w ∷ ws) v = (mod-lt (v / 2 ^ bits ws) (pow-pos w), fields-fit ws v)
 
 -- ---- a record of whole bytes
 

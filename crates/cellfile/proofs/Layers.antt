@@ -9,7 +9,7 @@ use native.Mathlib.Omega.{arith}
 use lib.ListN.{length}
 use Rattle.cellfile.specs.Refusals.{Row, first}
 use Rattle.cellfile.specs.Answers.{Answer, answer}
-use Rattle.cellfile.specs.Fits.{All}
+use Rattle.matching.specs.Lists.{All}
 use Rattle.cellfile.proofs.Rows.{first-none}
 
 -- ---- answers

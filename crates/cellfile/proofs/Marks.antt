@@ -8,9 +8,8 @@ use Prim.Native.Nat.{ℕ, _<_}
 use lib.Dec.{eqb}
 use lib.ListN.{length, getD, set, replicate, length-set, length-replicate, getD-replicate}
 use lib.Seq.{getD-set-same, getD-set-other}
-use Rattle.matching.specs.Lists.{all, mem, distinct}
+use Rattle.matching.specs.Lists.{all, mem, distinct, All}
 use Rattle.matching.proofs.Tests.{Test, pass, fail, eqT}
-use Rattle.cellfile.specs.Fits.{All}
 
 -- Whether the cell has no mark in the table.
 abbrev pub unmarked : List ℕ → ℕ → Bool

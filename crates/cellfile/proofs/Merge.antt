@@ -10,13 +10,12 @@ use native.Mathlib.Omega.{arith}
 use native.Mathlib.Nat.{add-zero}
 use lib.Dec.{ltb}
 use borrow.Author.Tests.{lt-ltb}
-use Rattle.matching.specs.Lists.{all}
+use Rattle.matching.specs.Lists.{all, All}
 use Rattle.matching.specs.Pairs.{Pair, sum, same}
 use Rattle.matching.specs.Listed.{Entry, joined, listed}
 use Rattle.matching.proofs.Tests.{Test, pass, fail, test, eqT, ltT, leT, andT, mapT, holds, passes, fails}
 use Rattle.matching.proofs.Pairs.{Same, sameT}
 use Rattle.matching.proofs.Listed.{joined-same, listed-same, joined-apart, listed-apart}
-use Rattle.cellfile.specs.Fits.{All}
 use Rattle.cellfile.specs.Refusals.{key, ascendingFrom}
 use Rattle.cellfile.specs.Loops.{merged}
 use Rattle.cellfile.specs.declared.Weighed.{Weighed}

@@ -1,7 +1,7 @@
 -- Laws of files written into an output. In order: a number written from its last byte on; one part written after
 -- another, `onto-next`; the words of a file, and the files that words make.
 use Prim.Native.Nat.{ℕ, zero, suc, _+_, _*_, _-_, _/_, _%_, _<_, _≤_}
-use mathlib.Core.Path.{_≡_, refl, sym, ap, ap₂, _∙_}
+use mathlib.Core.Path.{_≡_, refl, sym, ap, _∙_}
 use mathlib.Core.List.{List, [], _∷_, _++_, map, append-nil, append-assoc}
 use native.Mathlib.Omega.{arith}
 use native.Mathlib.Nat.{mul-suc, mul-le-mul-left}
@@ -12,7 +12,7 @@ use lib.Seq.{take-suc, take-at, take-all, length-take-le}
 use borrow.Rule.Slice.PartMut.{putMid, postOf, post-is}
 use Rattle.cellfile.specs.Bytes.{bytes}
 use Rattle.cellfile.specs.Fields.{size, packed, fields, writeRecord, writeRecords}
-use Rattle.cellfile.specs.Files.{Layout, header, slip, pairing, shortList, writeFile, onto}
+use Rattle.cellfile.specs.Files.{Layout, header, shortList, writeFile, onto}
 use Rattle.cellfile.specs.Fits.{WholeBytes}
 use Rattle.cellfile.specs.Loops.{wordBytes, fileOf}
 use Rattle.cellfile.proofs.Bytes.{length-bytes}

@@ -1,19 +1,19 @@
 -- Laws of refusals 7 and 9, as the functions that check a slip's and a pairing's form meet them.
 -- In order: the header; the rules; the pairs; the answers.
 use Prim.Native.Nat.{ℕ, suc, _+_, _*_, _<_, _≤_}
-use mathlib.Core.Path.{_≡_, refl, sym, ap, _∙_}
+use mathlib.Core.Path.{_≡_, refl}
 use mathlib.Core.Bool.{Bool, true, false, not, _||_}
-use mathlib.Core.List.{List, [], _∷_, map}
+use mathlib.Core.List.{List, [], _∷_}
 use native.Mathlib.Omega.{arith}
 use native.Mathlib.Nat.{mul-le-mul}
 use native.Mathlib.Numerals.{add-one}
-use lib.Dec.{eqb, ltb, leb}
-use lib.ListN.{length, drop, getD}
+use lib.Dec.{eqb}
+use lib.ListN.{length, drop}
 use borrow.Author.Tests.{lt-ltb, le-ltb, le-leb, lt-leb, eq-eqb, ne-eqb}
 use Rattle.matching.specs.Lists.{any}
-use Rattle.cellfile.specs.Fields.{readRecord, readRecords}
-use Rattle.cellfile.specs.Files.{slip, pairing, asPair, cellsOf, countOf}
-use Rattle.cellfile.specs.Refusals.{first, strayPair, ascendingFrom, misheaded, noRule, badSlip, badPair, badPairing}
+use Rattle.cellfile.specs.Fields.{readRecords}
+use Rattle.cellfile.specs.Files.{slip, pairing, asPair, countOf}
+use Rattle.cellfile.specs.Refusals.{first, strayPair, misheaded, noRule, badSlip, badPair, badPairing}
 use Rattle.cellfile.specs.Answers.{answer}
 use Rattle.cellfile.specs.Reads.{HeaderRead, StepRead, PairRead}
 use Rattle.cellfile.specs.Loops.{ruleless, badPairs}

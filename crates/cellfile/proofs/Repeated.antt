@@ -1,17 +1,15 @@
 -- The cells of a pairing from place i on, marked in a table, as the loop over the pairs meets them.
 use Prim.Native.Nat.{ℕ, zero, suc, _+_, _*_, _<_, _≤_}
-use mathlib.Core.Path.{_≡_, sym, ap, _∙_}
+use mathlib.Core.Path.{_≡_, sym, _∙_}
 use mathlib.Core.Bool.{Bool, true, false, not}
-use mathlib.Core.List.{List, [], _∷_, map}
+use mathlib.Core.List.{List, map}
 use native.Mathlib.Omega.{arith}
 use borrow.Author.Tests.{eq-eqb, ne-eqb}
 use lib.ListN.{getD, set, drop}
-use Rattle.matching.specs.Lists.{distinct}
+use Rattle.matching.specs.Lists.{distinct, All}
 use Rattle.matching.specs.Pairing.{cells}
-use Rattle.cellfile.specs.Bytes.{number}
 use Rattle.cellfile.specs.Fields.{fields, readRecords}
 use Rattle.cellfile.specs.Files.{pairing, asPair, zeros}
-use Rattle.cellfile.specs.Fits.{All}
 use Rattle.cellfile.specs.Reads.{PairRead}
 use Rattle.cellfile.specs.Loops.{pairs}
 use Rattle.cellfile.specs.declared.decode.PairEntry.{PairEntry}

@@ -8,18 +8,19 @@ use mathlib.Core.Path.{_≡_, refl, sym, _∙_}
 use mathlib.Core.Bool.{true, false}
 use mathlib.Core.List.{List, [], _∷_, _++_, map, append-nil}
 use native.Mathlib.Omega.{arith}
-use lib.ListN.{length, take, drop, length-drop, take-append-drop}
+use lib.ListN.{length, take, drop, length-append, length-drop, take-append-drop}
 use lib.Seq.{drop-at, drop-drop, take-all}
+use Rattle.matching.specs.Lists.{All}
 use Rattle.matching.specs.Listed.{Entry}
 use Rattle.cellfile.specs.Fields.{size, fields, readRecord, writeRecord, readRecords, writeRecords}
 use Rattle.cellfile.specs.Files.{Layout, storeList, shortList, slip, pairing, start, fileLength}
 use Rattle.cellfile.specs.Files.{header, kindOf, cellsOf, countOf, zerosOf, entriesOf}
 use Rattle.cellfile.specs.Files.{File, readFile, writeFile, readEntries}
-use Rattle.cellfile.specs.Fits.{All, AreBytes, WholeBytes, FitsFile}
+use Rattle.cellfile.specs.Fits.{AreBytes, WholeBytes, FitsFile}
 use Rattle.cellfile.specs.Refusals.{first, listRows, key, ascendingFrom, misheaded, badSlip, badPairing}
 use Rattle.cellfile.proofs.All.{all-drop}
 use Rattle.cellfile.proofs.Fields.{length-write-record, read-write-record, write-read-record}
-use Rattle.cellfile.proofs.Fields.{length-read-records, read-write-records, write-read-records}
+use Rattle.cellfile.proofs.Fields.{length-read-records, length-write-records, read-write-records, write-read-records}
 use Rattle.cellfile.proofs.Rows.{or-none, list-none, not-a-list-none, wrong-length-none}
 use Rattle.cellfile.proofs.Rows.{stray-entry-none, unordered-none, misheaded-none}
 
@@ -65,6 +66,15 @@ read-write l f fits =
     entries-again =
         rw (drop-at (writeRecord widths (f .extra)) entries (size widths) (length-write-record widths (f .extra)))
         (rw append-nil at (read-write-records (l .entry) (f .entries) [] (fits .whole-entry) (fits .entries)))
+
+-- a file is as long as its layout says
+pub length-file : (l : Layout) (f : File) → length (writeFile l f) ≡ fileLength l (f .cells) (length (f .entries))
+length-file l f =
+    rw (length-append, length-append, length-write-records (l .entry) (f .entries))
+    (rw (
+      length-write-record header (l .kind ∷ f .cells ∷ length (f .entries) ∷ 0 ∷ []),
+      length-write-record (l .extra (f .cells)) (f .extra),
+    ) (omega arith))
 
 -- ---- bytes, read and written again
 

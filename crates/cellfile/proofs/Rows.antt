@@ -8,12 +8,11 @@ use native.Mathlib.Omega.{arith}
 use borrow.Author.Tests.{eqb-true, ltb-false, leb-false, not-false}
 use lib.Dec.{ltb, leb, eqb}
 use lib.ListN.{length, getD}
-use Rattle.matching.specs.Lists.{any}
+use Rattle.matching.specs.Lists.{any, All}
 use Rattle.matching.specs.Pairs.{Pair}
 use Rattle.matching.specs.Listed.{Entry}
 use Rattle.cellfile.specs.Files.{Layout, kindOf, cellsOf, countOf, zerosOf, fileLength, entriesOf}
 use Rattle.cellfile.specs.Files.{pairing, asPair, readEntries, pairsOf}
-use Rattle.cellfile.specs.Fits.{All}
 use Rattle.cellfile.specs.Refusals.{Row, first, listRows, notAList, wrongLength, strayPair, strayEntry}
 use Rattle.cellfile.specs.Refusals.{tooLarge, key, ascendingFrom, unordered, misheaded, badPair, badPairing}
 use Rattle.cellfile.proofs.All.{all-imp, all-map}

@@ -1,18 +1,16 @@
 -- Records met one by one from the start of a file, as the loops over entries meet them.
--- The record at place i; and any, and ascendingFrom, from place i on in terms of place i and what follows.
+-- The records from place i on are the one at i and those that follow; so a test of some record from i on.
 use Prim.Native.Nat.{ℕ, suc, _+_, _*_, _-_, _<_, _≤_}
-use mathlib.Core.Path.{_≡_, refl, subst}
+use mathlib.Core.Path.{_≡_, subst}
 use mathlib.Core.Bool.{Bool, true, false}
 use mathlib.Core.List.{List, [], _∷_, map}
 use native.Mathlib.Omega.{arith}
 use native.Mathlib.Nat.{mul-suc, sub-zero}
 use native.Mathlib.Numerals.{add-one}
-use borrow.Author.Tests.{lt-leb, le-leb}
 use lib.ListN.{length, take, drop, length-drop}
 use lib.Seq.{drop-drop, take-all}
 use Rattle.matching.specs.Lists.{any}
 use Rattle.cellfile.specs.Fields.{size, readRecord, readRecords}
-use Rattle.cellfile.specs.Refusals.{ascendingFrom}
 
 -- a part to the end is what is left
 rest : (s : List ℕ) (at : ℕ) → take (length s - at) (drop at s) ≡ drop at s
@@ -52,11 +50,3 @@ module _ (ws s : List ℕ) (h m i : ℕ) (l : i < m) where
     pub any-next : (t : A → Bool) → t (f (readRecord ws (drop (h + size ws * i) s))) ≡ false
         → any t (map f (from ws s h m i)) ≡ any t (map f (from ws s h m (i + 1)))
     any-next t p = rw (from-next, p)
-
-  module _ (f : List ℕ → ℕ) (low : ℕ) {k : ℕ} (q : k ≡ f (readRecord ws (drop (h + size ws * i) s))) where
-    pub ascending-not : k < low → ascendingFrom low (map f (from ws s h m i)) ≡ false
-    ascending-not p = rw (from-next, ← q, lt-leb low k p)
-
-    pub ascending-next : low ≤ k → ascendingFrom low (map f (from ws s h m i))
-        ≡ ascendingFrom (k + 1) (map f (from ws s h m (i + 1)))
-    ascending-next p = rw (from-next, ← q, le-leb low k p, add-one k)

@@ -14,10 +14,9 @@ use Rattle.matching.specs.Pairing.{cells, isPairing}
 use Rattle.matching.specs.Listed.{Entry, joined, points}
 use Rattle.cellfile.specs.Fields.{fields}
 use Rattle.cellfile.specs.Files.{storeList, cellsOf, countOf, entriesOf, pairsOf}
-use Rattle.cellfile.specs.Refusals.{Row, first, fewWords, listRows, key, ascendingFrom, badPairing, noPairing}
+use Rattle.cellfile.specs.Refusals.{Row, first, fewWords, listRows, badPairing, noPairing}
 use Rattle.cellfile.specs.Answers.{Answer, answer, weighed}
 use Rattle.cellfile.specs.Weigh.{formRow, pairRow, weighing}
-use Rattle.cellfile.specs.Fits.{All}
 use Rattle.cellfile.specs.Loops.{entries, pairs, merged}
 use Rattle.cellfile.specs.declared.Weighed.{Weighed}
 use Rattle.cellfile.specs.declared.Weighed.the-variants.{Refused, Points}

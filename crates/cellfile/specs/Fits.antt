@@ -4,13 +4,9 @@ use Prim.Native.Nat.{ℕ, _*_, _<_, _^_}
 use mathlib.Core.Path.{_≡_}
 use mathlib.Core.List.{List, [], _∷_}
 use lib.ListN.{length}
+use Rattle.matching.specs.Lists.{All}
 use Rattle.cellfile.specs.Fields.{bits, size}
 use Rattle.cellfile.specs.Files.{Layout, File}
-
--- Every element of the list is as P says.
-abbrev pub All : {A : Type 0} → (A → Type 0) → List A → Type 0
-All P [] = Unit {0}
-All P (x ∷ xs) = P x × All P xs
 
 -- Bytes are below 256.
 abbrev pub AreBytes : List ℕ → Type 0

@@ -11,7 +11,7 @@ ghost use Prim.Native.Nat.{_+_, _*_, _≤_, _<_};
 ghost use lib.ListN.{length, drop};
 ghost use Rattle.matching.specs.Lists.{distinct};
 ghost use Rattle.matching.specs.Pairing.{cells};
-ghost use Rattle.cellfile.specs.Files.{storeList, cellsOf, countOf, lent};
+ghost use Rattle.cellfile.specs.Files.{storeList, cellsOf, countOf};
 ghost use Rattle.cellfile.specs.Refusals.{first, listRows, badPairing};
 ghost use Rattle.cellfile.specs.Answers.{answer, weighed};
 ghost use Rattle.cellfile.specs.Weigh.{formRow, pairRow, weight, weighing};

@@ -6,7 +6,7 @@ ghost use Prim.Native.Nat.{_+_, _*_, _≤_, _<_};
 ghost use lib.ListN.{length, take};
 ghost use Rattle.cellfile.specs.Bytes.{bytes};
 ghost use Rattle.cellfile.specs.Fields.{packed};
-ghost use Rattle.cellfile.specs.Files.{header, slip, pairing, shortList, fileLength, writeFile, onto};
+ghost use Rattle.cellfile.specs.Files.{header, slip, pairing, shortList, writeFile, onto};
 ghost use Rattle.cellfile.specs.Loops.{wordBytes, fileOf, Writable};
 
 const KIND_UNIT: u64 = 268435456;

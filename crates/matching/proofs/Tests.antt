@@ -17,6 +17,10 @@ pub test : {P N : Type 0} (t : Bool) → (t ≡ true → P) → (t ≡ false →
 test true p n = pass (p refl)
 test false p n = fail (n refl)
 
+-- A test by itself.
+pub isT : (t : Bool) → Test (t ≡ true) (t ≡ false) t
+isT t = test t (λ e. e) (λ e. e)
+
 -- The tests on numbers.
 pub eqT : (a b : ℕ) → Test (a ≡ b) (a ≢ b) (eqb a b)
 eqT a b = test (eqb a b) (eqb-true a b) (eqb-false a b)

@@ -1,5 +1,16 @@
--- Pairings (matchings) of lists of weighted pairs, in the words of the product's description.
+-- Pairings (matchings) of lists of weighted pairs and the reduction steps, in the words of the product's description.
+-- In reading order: pairs and pairings; lists and graphs; the best of some pairs; steps; where a step stands, and finding
+-- it; slips, and what is demanded of them; solving; worked lists.
 pub mod Lists
 pub mod Pairs
 pub mod Pairing
 pub mod Listed
+pub mod Graph
+pub mod Best
+pub mod Steps
+pub mod Shapes
+pub mod Find
+pub mod Slip
+pub mod Demand
+pub mod Solve
+pub mod Worked

@@ -1,4 +1,4 @@
--- Tests over lists.
+-- Tests and statements over lists.
 use mathlib.Core.Bool.{Bool, true, false, _&&_, _||_, not}
 use mathlib.Core.List.{List, [], _∷_}
 use Prim.Native.Nat.{ℕ}
@@ -22,3 +22,8 @@ mem c (x ∷ xs) = eqb x c || mem c xs
 abbrev pub distinct : List ℕ → Bool
 distinct [] = true
 distinct (x ∷ xs) = not (mem x xs) && distinct xs
+
+-- Every element is as P says.
+abbrev pub All : {A : Type 0} → (A → Type 0) → List A → Type 0
+All P [] = Unit {0}
+All P (x ∷ xs) = P x × All P xs

@@ -15,11 +15,17 @@ pub record Pairing (there : Points) (m : List Pair) : Type 0 where
   pub held : Each (λ a b. 0 < there a b) m
   pub once : Once m
 
+-- 'It is heaviest if it has at least as many points as every other pairing of the same list or graph.' Of a graph w,
+-- `Heaviest w w`; of a list, what its entries join and the points that they give.
+pub record Heaviest (there w : Points) (m : List Pair) : Type 0 where
+  pub pairing : Pairing there m
+  pub most : (k : List Pair) → Pairing there k → sum w k ≤ sum w m
+
 -- The cells of the pairs, one after the other.
 abbrev pub cells : List Pair → List ℕ
 cells [] = []
 cells (e ∷ m) = e .0 ∷ e .1 ∷ cells m
 
--- The same as a test.
+-- What a pairing is, as a test.
 unfoldable pub isPairing : Points → List Pair → Bool
 isPairing there m = distinct (cells m) && all (λ (e : Pair). ltb 0 (there (e .0) (e .1))) m

@@ -1,11 +1,9 @@
 -- `check_list` answers the first of refusals 2 to 6.
-use Prim.Native.Nat.{_+_, _*_, _≤_}
+use Prim.Native.Nat.{_≤_}
 use mathlib.Core.Path.{_≡_, sym, ap, _∙_}
 use mathlib.Core.Bool.{false}
-use lib.ListN.{length}
 use Rattle.cellfile.specs.Files.{storeList}
 use Rattle.cellfile.specs.Refusals.{notAList, tooLarge, wrongLength, strayEntry}
-use Rattle.cellfile.specs.Answers.{answer}
 use Rattle.cellfile.proofs.Forms.{large-not, length-wrong, length-right, stray-is, unordered-is, values-are, row-2, row-3, row-4, row-5, row-6, row-none}
 use native.Mathlib.Omega.{arith}
 use borrow.Author.Needs.{needs}

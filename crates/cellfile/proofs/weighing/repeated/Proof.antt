@@ -1,7 +1,7 @@
 -- `repeated` finds a cell that stands twice. Invariant: some cell of the pairing stands twice just where, among the pairs
 -- from place i on, a cell is met that has a mark or stands twice.
 use Prim.Native.Nat.{ℕ, _+_, _*_, _-_, _≤_}
-use mathlib.Core.Path.{_≡_, refl, sym, _∙_, ap}
+use mathlib.Core.Path.{_≡_, refl, sym, _∙_}
 use mathlib.Core.Bool.{not}
 use mathlib.Core.List.{List}
 use lib.ListN.{length, drop, length-set}

@@ -1,5 +1,5 @@
 -- `put_words` writes one word after the other. Invariant: the bytes of the first i words are written, up to `at`.
-use Prim.Native.Nat.{ℕ, _+_, _*_, _-_, _≤_}
+use Prim.Native.Nat.{_+_, _*_, _-_, _≤_}
 use mathlib.Core.Path.{_≡_, refl, sym, ap, _∙_}
 use lib.ListN.{length, take}
 use Rattle.cellfile.specs.Files.{onto}

@@ -1,5 +1,5 @@
 -- `write_short` writes the header, the carried points and then the words.
-use mathlib.Core.Path.{_≡_, refl, ap, _∙_}
+use mathlib.Core.Path.{ap, _∙_}
 use Rattle.cellfile.specs.Files.{onto}
 use Rattle.cellfile.proofs.Bytes.{length-bytes}
 use Rattle.cellfile.proofs.Outputs.{onto-next, length-head, short-file}

@@ -1,5 +1,5 @@
 -- `write_slip` writes the header and then the words.
-use mathlib.Core.Path.{_≡_, refl, ap, _∙_}
+use mathlib.Core.Path.{refl, ap, _∙_}
 use Rattle.cellfile.specs.Files.{slip, onto}
 use Rattle.cellfile.proofs.Bytes.{length-bytes}
 use Rattle.cellfile.proofs.Outputs.{onto-next, plain-file}
