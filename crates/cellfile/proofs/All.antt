@@ -1,5 +1,5 @@
--- Laws of `All`, that every element of a list is as P says: of the end of a list, of one element;
--- where P says more than Q; of the values of a function.
+-- Laws of `All`, that every element of a list is as P says: of the end of a list, of one element, of the values of a
+-- function.
 use Prim.Native.Nat.{ℕ, zero, suc}
 use mathlib.Core.List.{List, [], _∷_, map}
 use lib.ListN.{getD, drop}
@@ -17,10 +17,6 @@ module _ {A : Type 0} (P : A → Type 0) where
   all-getD (x ∷ s) zero d p a = a .0
   all-getD (x ∷ s) (suc i) d p a = all-getD s i d p (a .1)
 
-pub all-imp : {A : Type 0} (P Q : A → Type 0) → ((x : A) → P x → Q x) → (s : List A) → All P s → All Q s
-all-imp P Q f [] a = tt
-all-imp P Q f (x ∷ s) a = (f x (a .0), all-imp P Q f s (a .1))
-
-pub all-map : {A B : Type 0} (f : A → B) (P : B → Type 0) (s : List A) → All (λ (x : A). P (f x)) s → All P (map f s)
-all-map f P [] a = tt
-all-map f P (x ∷ s) a = (a .0, all-map f P s (a .1))
+pub all-values : {A B : Type 0} (f : A → B) (P : B → Type 0) (s : List A) → All (λ (x : A). P (f x)) s → All P (map f s)
+all-values f P [] a = tt
+all-values f P (x ∷ s) a = (a .0, all-values f P s (a .1))

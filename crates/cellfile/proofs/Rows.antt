@@ -15,7 +15,8 @@ use Rattle.cellfile.specs.Files.{Layout, kindOf, cellsOf, countOf, zeros
 use Rattle.cellfile.specs.Files.{pairing, asPair, readEntries, pairsOf}
 use Rattle.cellfile.specs.Refusals.{Row, first, listRows, notAList, wrongLength, strayPair, strayEntry}
 use Rattle.cellfile.specs.Refusals.{tooLarge, key, ascendingFrom, unordered, misheaded, badPair, badPairing}
-use Rattle.cellfile.proofs.All.{all-imp, all-map}
+use Rattle.matching.proofs.Alls.{all-map}
+use Rattle.cellfile.proofs.All.{all-values}
 
 -- ---- tests that fail
 
@@ -75,7 +76,7 @@ pub stray-entry-none : (l : Layout) (s : List ℕ) → strayEntry l s ≡ false
     → All (λ (e : Entry). (e .0 < e .1) × (e .1 < cellsOf s)) (entriesOf l s)
 unfolding strayEntry
 stray-entry-none l s e =
-    all-imp _ _ (λ (x : Entry). stray-pair-none (cellsOf s) (x .0) (x .1)) (entriesOf l s)
+    all-map (λ (x : Entry). stray-pair-none (cellsOf s) (x .0) (x .1)) (entriesOf l s)
     (any-none (λ (x : Entry). strayPair (cellsOf s) (x .0) (x .1)) (entriesOf l s) e)
 
 pub unordered-none : (l : Layout) (s : List ℕ) → unordered l s ≡ false
@@ -101,8 +102,8 @@ bad-pairing-none n s e =
     let a = or-none (misheaded 4 3 n s) _ e in
     let b = or-none (any (badPair n) (readEntries pairing s)) _ (a .1) in (
       misheaded-none 4 3 n s (a .0) .3,
-      all-map asPair _ (readEntries pairing s)
-          (all-imp _ _ (λ (r : List ℕ). good r) (readEntries pairing s) (any-none (badPair n) (readEntries pairing s) (b .0))),
+      all-values asPair _ (readEntries pairing s)
+          (all-map (λ (r : List ℕ). good r) (readEntries pairing s) (any-none (badPair n) (readEntries pairing s) (b .0))),
       firsts (readEntries pairing s) ∙ not-false _ (b .1),
     )
   where

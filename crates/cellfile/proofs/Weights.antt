@@ -20,7 +20,7 @@ use Rattle.cellfile.specs.Weigh.{formRow, pairRow, weighing}
 use Rattle.cellfile.specs.Loops.{entries, pairs, merged}
 use Rattle.cellfile.specs.declared.Weighed.{Weighed}
 use Rattle.cellfile.specs.declared.Weighed.the-variants.{Refused, Points}
-use Rattle.cellfile.proofs.All.{all-imp}
+use Rattle.matching.proofs.Alls.{all-map}
 use Rattle.cellfile.proofs.Rows.{list-none, too-large-none, wrong-length-none, stray-entry-none, unordered-none}
 use Rattle.cellfile.proofs.Rows.{first-none, bad-pairing-none}
 use Rattle.cellfile.proofs.Layers.{answer-accepted, layer-refused, layer-passed}
@@ -94,9 +94,9 @@ module _ (list pairing : List ℕ) {m k : ℕ} (accepted : first (listRows store
       let p = bad-pairing-none (cellsOf list) pairing formed in
       ap₂ (λ (i j : ℕ). merged (entries i (drop 4 list)) (pairs j (drop 4 pairing)) 0) em ek
       ∙ merged-is es ps 0 0 0
-      (all-imp _ _ (λ (x : Entry) h. (h .0, omega arith)) es (stray-entry-none storeList list (rows .1 .1 .1 .0)))
+      (all-map (λ (x : Entry) h. (h .0, omega arith)) es (stray-entry-none storeList list (rows .1 .1 .1 .0)))
       (unordered-none storeList list (rows .1 .1 .1 .1 .0))
-      (all-imp _ _ (λ (x : Pair) h. (h .0, omega arith)) ps (p .1))
+      (all-map (λ (x : Pair) h. (h .0, omega arith)) ps (p .1))
       (p .2)
 
   pub pairs-found : {r : Weighed} → t ≡ false

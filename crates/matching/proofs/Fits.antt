@@ -3,13 +3,13 @@
 use mathlib.Core.Path.{_≡_}
 use mathlib.Core.Logic.{_≢_}
 use mathlib.Core.Bool.{true, false}
-use mathlib.Core.List.{List}
+use mathlib.Core.List.{List, [], _∷_}
 use Prim.Native.Nat.{ℕ, _<_}
 use lib.ListN.{length}
 use Rattle.matching.specs.Lists.{mem, distinct}
 use Rattle.matching.specs.Pairs.{Points, Each}
 use Rattle.matching.specs.Best.{walk}
-use Rattle.matching.specs.Steps.{Step, leaf, ring, chain}
+use Rattle.matching.specs.Steps.{Step, leaf, ring, chain, apply}
 use Rattle.matching.proofs.Sums.{In}
 
 -- Two or more inner cells between u and v, no two the same: every pair of an inner cell is in the row.
@@ -30,3 +30,8 @@ abbrev pub Fits : Points → Step → Type 0
 Fits w (leaf u v) = FitsLeaf w u v
 Fits w (ring u z inner) = Segment w u inner u × (mem z inner ≡ true)
 Fits w (chain u v z inner) = Segment w u inner v × (mem z inner ≡ true) × (u ≢ v)
+
+-- Each step fits the graph that the steps before it left.
+abbrev pub Stands : Points → List Step → Type 0
+Stands w [] = Unit {0}
+Stands w (s ∷ ss) = Fits w s × Stands (apply w s) ss

@@ -11,7 +11,7 @@ use lib.Dec.{eqb}
 use borrow.Author.Tests.{eq-eqb, ne-eqb}
 use Rattle.matching.specs.Pairs.{Pair, Points, ι, sum, Each, keep, touches, hit, same, like}
 use Rattle.matching.specs.Pairing.{Once}
-use Rattle.matching.proofs.Tests.{Test, pass, fail, eqT, ltT, orT, fails}
+use Rattle.matching.proofs.Tests.{Test, pass, fail, isT, eqT, ltT, notT, orT, holds, fails}
 use Rattle.matching.proofs.Pairs.{Same, Apart, sameT}
 
 -- ---- arithmetic of counts
@@ -59,7 +59,8 @@ pub sum-eq : {P : ℕ → ℕ → Type 0} (f g : Points) → ((a b : ℕ) → P 
 sum-eq f g h [] p = omega arith
 sum-eq f g h (e ∷ m) p = omega (arith, h (e .0) (e .1) (p .0), sum-eq f g h m (p .1))
 
-pub sum-none : {P : ℕ → ℕ → Type 0} (f : Points) → ((a b : ℕ) → P a b → f a b ≡ 0) → (m : List Pair) → Each P m → sum f m ≡ 0
+pub sum-none : {P : ℕ → ℕ → Type 0} (f : Points) → ((a b : ℕ) → P a b → f a b ≡ 0) → (m : List Pair)
+    → Each P m → sum f m ≡ 0
 sum-none f h [] p = omega arith
 sum-none f h (e ∷ m) p = omega (arith, h (e .0) (e .1) (p .0), sum-none f h m (p .1))
 
@@ -69,7 +70,8 @@ sum-keep t f [] = omega arith
 sum-keep t f (e ∷ m) = go (t (e .0) (e .1)) (sum-keep t f m)
   where
     go : (s : Bool) → sum f (keep t m) + sum f (keep (λ a b. not (t a b)) m) ≡ sum f m
-        → sum f (cond s (e ∷ keep t m) (keep t m)) + sum f (cond (not s) (e ∷ keep (λ a b. not (t a b)) m) (keep (λ a b. not (t a b)) m))
+        → sum f (cond s (e ∷ keep t m) (keep t m))
+        + sum f (cond (not s) (e ∷ keep (λ a b. not (t a b)) m) (keep (λ a b. not (t a b)) m))
         ≡ f (e .0) (e .1) + sum f m
     go true h = omega arith
     go false h = omega arith
@@ -78,7 +80,8 @@ pub keep-append : (t : ℕ → ℕ → Bool) (m k : List Pair) → keep t (m ++ 
 keep-append t [] k = refl
 keep-append t (e ∷ m) k = go (t (e .0) (e .1)) (keep-append t m k)
   where
-    go : (s : Bool) → keep t (m ++ k) ≡ keep t m ++ keep t k → cond s (e ∷ keep t (m ++ k)) (keep t (m ++ k)) ≡ cond s (e ∷ keep t m) (keep t m) ++ keep t k
+    go : (s : Bool) → keep t (m ++ k) ≡ keep t m ++ keep t k
+        → cond s (e ∷ keep t (m ++ k)) (keep t (m ++ k)) ≡ cond s (e ∷ keep t m) (keep t m) ++ keep t k
     go true i = ap (λ l. e ∷ l) i
     go false i = i
 
@@ -209,13 +212,20 @@ sum-apart f s x y (e ∷ m) = go (sameT x y (e .0) (e .1)) (sum-apart f s x y m)
   where
     go : {t : Bool} → Test (Same x y (e .0) (e .1)) (Apart x y (e .0) (e .1)) t
         → sum f m ≡ f x y * sum (like x y) m + sum f (without x y m)
-        → f (e .0) (e .1) + sum f m ≡ f x y * (ι t + sum (like x y) m) + sum f (cond (not t) (e ∷ without x y m) (without x y m))
+        → f (e .0) (e .1) + sum f m
+        ≡ f x y * (ι t + sum (like x y) m) + sum f (cond (not t) (e ∷ without x y m) (without x y m))
     go (pass (inl p)) i = let z : f (e .0) (e .1) ≡ f x y = ap₂ f (p .0) (p .1) in omega arith
     go (pass (inr p)) i = let z : f (e .0) (e .1) ≡ f x y = ap₂ f (p .0) (p .1) ∙ s y x in omega arith
     go (fail n) i = omega arith
 
 pub like-once : (x y : ℕ) (m : List Pair) → Once m → sum (like x y) m ≤ 1
-like-once x y m o = omega (arith, o x, sum-apart (hit x) (hit-turned x) x y m, mul-le-mul-right (sum (like x y) m) (hit-some x x y (inl refl)))
+like-once x y m o =
+    omega (
+      arith,
+      o x,
+      sum-apart (hit x) (hit-turned x) x y m,
+      mul-le-mul-right (sum (like x y) m) (hit-some x x y (inl refl)),
+    )
 
 -- the cells a, b are a pair of the list
 abbrev pub In : List Pair → ℕ → ℕ → Type 0
@@ -230,7 +240,12 @@ in-all [] = tt
 in-all (e ∷ es) = (in-head (e .0) (e .1) es, each-map (λ a b h. omega arith) es (in-all es))
 
 pub in-turned : (es : List Pair) (a b : ℕ) → In es a b → In es b a
-in-turned es a b h = omega (arith, sum-le-all (λ x y. like x y a b) (λ x y. like x y b a) (λ x y. omega (arith, like-turned x y a b)) es)
+in-turned es a b h =
+    omega (
+      arith,
+      sum-le-all (λ x y. like x y a b) (λ x y. like x y b a)
+          (λ x y. omega (arith, like-turned x y a b)) es,
+    )
 
 pub in-cases : (x y : ℕ) (es : List Pair) (a b : ℕ) → In ((x, y) ∷ es) a b → Same x y a b ⊎ In es a b
 in-cases x y es a b h = go (ltT 0 (like x y a b))
@@ -241,3 +256,61 @@ in-cases x y es a b h = go (ltT 0 (like x y a b))
 
 pub no-in : {P : Type 0} (a b : ℕ) → In [] a b → P
 no-in a b h = (let z : ⊥ = omega arith in absurd z)
+
+-- the order of two cells does not matter
+abbrev pub Turned : Points → Type 0
+Turned f = (a b : ℕ) → f a b ≡ f b a
+
+pub once-cons : (x y : ℕ) (m : List Pair) → x ≢ y → sum (hit x) m ≡ 0 → sum (hit y) m ≡ 0 → Once m → Once ((x, y) ∷ m)
+once-cons x y m n hx hy o c = go (eqT x c) (eqT y c)
+  where
+    go : {s t : Bool} → Test (x ≡ c) (x ≢ c) s → Test (y ≡ c) (y ≢ c) t → hit c x y + sum (hit c) m ≤ 1
+    go (pass e) q = omega (arith, hit-most c x y n, ap (λ d. sum (hit d) m) e)
+    go (fail k) (pass e) = omega (arith, hit-most c x y n, ap (λ d. sum (hit d) m) e)
+    go (fail k) (fail l) = omega (arith, hit-none c x y k l, o c)
+
+pub keep-all : (m : List Pair) → keep (λ a b. true) m ≡ m
+keep-all [] = refl
+keep-all (e ∷ m) = ap (λ l. e ∷ l) (keep-all m)
+
+pub keep-and : (s t : ℕ → ℕ → Bool) (m : List Pair) → keep (λ a b. s a b && t a b) m ≡ keep t (keep s m)
+keep-and s t [] = refl
+keep-and s t (e ∷ m) = go (s (e .0) (e .1)) (keep-and s t m)
+  where
+    both : List Pair
+    both = keep (λ a b. s a b && t a b) m
+
+    go : (p : Bool) → both ≡ keep t (keep s m)
+        → cond (p && t (e .0) (e .1)) (e ∷ both) both ≡ keep t (cond p (e ∷ keep s m) (keep s m))
+    go true i = ap (λ l. cond (t (e .0) (e .1)) (e ∷ l) l) i
+    go false i = i
+
+-- a pairing and one pair x, y: the others, and how often the pair stands there
+pub without-once : (x y : ℕ) (m : List Pair) → Once m → Once (without x y m)
+without-once x y m o c = omega (arith, sum-apart (hit c) (hit-turned c) x y m, o c)
+
+pub without-none : (x y : ℕ) (m : List Pair) (c : ℕ) → sum (hit c) m ≡ 0 → sum (hit c) (without x y m) ≡ 0
+without-none x y m c h = omega (arith, sum-apart (hit c) (hit-turned c) x y m)
+
+pub like-hit : (x y : ℕ) (m : List Pair) (c : ℕ) → (x ≡ c) ⊎ (y ≡ c)
+    → sum (like x y) m + sum (hit c) (without x y m) ≤ sum (hit c) m
+like-hit x y m c h =
+    omega (arith, sum-apart (hit c) (hit-turned c) x y m, mul-le-mul-right (sum (like x y) m) (hit-some c x y h))
+
+pub without-in : (x y : ℕ) (m es : List Pair) → Each (In ((x, y) ∷ es)) m → Each (In es) (without x y m)
+unfolding like
+without-in x y m es p =
+    each-keep (λ a b. not (same x y a b)) (λ a b h e. omega (arith, ap ι (holds (notT (isT (same x y a b))) e))) m p
+
+pub turned-same : (f : Points) → Turned f → (x y a b : ℕ) → Same x y a b → f a b ≡ f x y
+turned-same f t x y a b (inl p) = ap₂ f (p .0) (p .1)
+turned-same f t x y a b (inr p) = ap₂ f (p .0) (p .1) ∙ t y x
+
+-- `sum-apart`, where the pair x, y may stay
+pub sum-unless : (d : Bool) (f : Points) → Turned f → (x y : ℕ) (m : List Pair)
+    → sum f m ≡ f x y * cond d 0 (sum (like x y) m) + sum f (keep (λ a b. d || not (same x y a b)) m)
+sum-unless true f t x y m = rw (keep-all m) (omega arith)
+sum-unless false f t x y m = sum-apart f t x y m
+
+pub same-self : (x y : ℕ) → same x y x y ≡ true
+same-self x y = rw (eq-eqb x x refl, eq-eqb y y refl)

@@ -1,4 +1,5 @@
--- What a step and a slip must do: nothing is gained or lost on the way back, and nothing is out of reach on the way down.
+-- What a step and a slip must do: nothing is gained or lost on the way back, and nothing is out of reach on the way
+-- down. Laws: proofs/Exact (`step-exact`), proofs/Demand (`no-gain-no-loss`).
 use mathlib.Core.Path.{_≡_}
 use mathlib.Core.List.{List}
 use Prim.Native.Nat.{ℕ, _+_, _≤_, _<_}
@@ -11,8 +12,8 @@ use Rattle.matching.specs.Steps.{Step}
 use Rattle.matching.specs.Slip.{left, carried, lift}
 
 -- An exact step from the graph w to w′ that carries k: the way back `up` of any pairing is a pairing with exactly k
--- points more; the way down of any pairing has at most k points less; w′ is a graph, in which fewer cells have pairs, and
--- there are no more pairs.
+-- points more; the way down of any pairing has at most k points less; w′ is a graph, in which fewer cells have pairs,
+-- and there are no more pairs.
 pub record Exact (n : ℕ) (w w′ : Points) (k : ℕ) (up down : List Pair → List Pair) : Type 0 where
   pub graph : Graph n w′
   pub lifted : (m : List Pair) → Pairing w′ m → Pairing w (up m) × (sum w (up m) ≡ sum w′ m + k)
@@ -20,11 +21,11 @@ pub record Exact (n : ℕ) (w w′ : Points) (k : ℕ) (up down : List Pair → 
   pub fewer : cellsLeft n w′ < cellsLeft n w
   pub no-more : length (shortList n w′) ≤ length (shortList n w)
 
--- Demand 3, of the accepted list `store` of n cells and the steps of a slip that is allowed on it. The lifted pairing is
--- a pairing of the store's entries with exactly the short pairing's points and the carried points; a heaviest pairing of
--- the store has exactly the points of a heaviest one of the short list and the carried points; a pairing that is d
--- points below the heaviest short one is lifted to one that is d points below the heaviest of the store; the slip has
--- at most n steps.
+-- Demand 3, of the accepted list `store` of n cells and the steps of a slip that is allowed on it. The lifted pairing
+-- is a pairing of the store's entries with exactly the short pairing's points and the carried points; a heaviest
+-- pairing of the store has exactly the points of a heaviest one of the short list and the carried points; a pairing
+-- that is d points below the heaviest short one is lifted to one that is d points below the heaviest of the store; the
+-- slip has at most n steps.
 module _ (n : ℕ) (store : List Entry) (ss : List Step) where
   abbrev pub short : Points
   short = left (listed store) ss

@@ -12,8 +12,8 @@ use Rattle.matching.specs.Graph.{partners, degree}
 use Rattle.matching.specs.Steps.{Rule, by-leaf, by-ring, by-chain, Step, leaf, ring, chain}
 use Rattle.matching.specs.Shapes.{last}
 
--- The row from `from` at the cell `at`: the cells of degree two met, and the cell behind them, which is `stop` or not of
--- degree two.
+-- The row from `from` at the cell `at`: the cells of degree two met, and the cell behind them, which is `stop` or not
+-- of degree two.
 abbrev pub Row : Type 0
 Row = List ℕ × ℕ
 

@@ -39,8 +39,8 @@ listed (e ∷ es) a b = cond (same (e .0) (e .1) a b) (e .2) 0 + listed es a b
 abbrev pub points : List Entry → List Pair → ℕ
 points es m = sum (listed es) m
 
--- The short list of a graph of n cells: its pairs with their points, ascending by (a, b). Those with the lower cell a, and
--- those with the lower cell below k.
+-- The short list of a graph of n cells: its pairs with their points, ascending by (a, b). Those with the lower cell a,
+-- and those with the lower cell below k.
 abbrev pub shortAt : Points → ℕ → ℕ → List Entry
 shortAt w a zero = []
 shortAt w a (suc b) = shortAt w a b ++ cond (ltb a b && ltb 0 (w a b)) ((a, b, w a b) ∷ []) []

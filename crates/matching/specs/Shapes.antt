@@ -2,7 +2,7 @@
 -- hold).
 use mathlib.Core.Path.{_≡_}
 use mathlib.Core.Logic.{_⊎_, _≢_}
-use mathlib.Core.Bool.{Bool, true, false}
+use mathlib.Core.Bool.{true, false}
 use mathlib.Core.List.{List, [], _∷_}
 use Prim.Native.Nat.{ℕ, _≤_, _<_}
 use lib.ListN.{length}
@@ -40,8 +40,8 @@ pub record IsLeaf (n : ℕ) (w : Points) (u v : ℕ) : Type 0 where
   pub one : degree n w v ≡ 1
   pub pair : 0 < w v u
 
--- 'A ring with at most one cell not of degree two. u is that cell, or the lowest cell when all have degree two. z is the
--- lowest other cell.' Read 'from u towards its lower ring neighbour'.
+-- 'A ring with at most one cell not of degree two. u is that cell, or the lowest cell when all have degree two. z is
+-- the lowest other cell.' Read 'from u towards its lower ring neighbour'.
 pub record IsRing (n : ℕ) (w : Points) (u z : ℕ) (inner : List ℕ) : Type 0 where
   pub row : IsRow n w u inner u
   pub low : Lowest z inner

@@ -1,5 +1,4 @@
 -- Slips (reduction traces): replaying one, what it leaves and carries, and the ways back and down through it.
-use mathlib.Core.Bool.{cond}
 use mathlib.Core.List.{List, [], _∷_}
 use mathlib.Core.Option.{Option, some, none}
 use Prim.Native.Nat.{ℕ, zero, suc, _+_}

@@ -1,5 +1,5 @@
 -- The steps: what each makes of the graph, what it carries, its way back and its way down.
-use mathlib.Core.Bool.{Bool, true, false, not, cond, _&&_, _||_}
+use mathlib.Core.Bool.{Bool, true, not, cond, _&&_, _||_}
 use mathlib.Core.List.{List, [], _∷_, _++_}
 use Prim.Native.Nat.{ℕ, _-_, max}
 use lib.Dec.{ltb}

@@ -3,7 +3,7 @@
 use mathlib.Core.List.{List, [], _∷_, map}
 use mathlib.Core.Option.{Option, some, none}
 use Prim.Native.Nat.{ℕ}
-use Rattle.matching.specs.Pairs.{Pair, Points}
+use Rattle.matching.specs.Pairs.{Pair}
 use Rattle.matching.specs.Listed.{Entry, listed, points, shortList, filed}
 use Rattle.matching.specs.Steps.{Rule, by-leaf, by-ring, by-chain, Step, name}
 use Rattle.matching.specs.Slip.{replay, left, carried, lift, reduce}

@@ -1,1 +1,20 @@
-// Definitions and theorems on matchings of weighted graphs: see specs/ and proofs/. This crate has no function.
+// Pairings (matchings) of weighted pairs and the reduction steps: definitions in specs/, laws in proofs/. This crate has no
+// function.
+//
+// The laws, by name and file of proofs/:
+//   best      is a pairing of its pairs (best-each, best-once, best-off), has the points H (best-H), no pairing of them
+//             has more (best-most): Best. Of equals it is the one that the tie names: best-first, Ties. The recurrence
+//             of a path and of a ring: path-step, ring-step, Path.
+//   stepAt    what is found is a leaf, ring or chain, and what is one is found: step-is, step-found; it is determined by
+//             rule and cell: step-one; none is found just where none is there: step-none, first-step-none; the first
+//             step is by the first rule, at the lowest cell: first-step-first. Find.
+//   steps     each step found fits (is-fits, Find), and one that fits is exact: step-exact, Exact (Leaf, Ring, Chain;
+//             fewer cells with pairs, no more pairs: Count).
+//   slips     demand 3, one theorem on the whole slip: no-gain-no-loss, Demand. The bounds of points and carried points:
+//             left-bound, total-fits; no more entries than the store: short-fewer. Demand.
+//   reduce    its steps are allowed: reduce-replay; none is allowed after them: reduce-ends. Reduce.
+//   solve     the recursion over sets is the choice in reading order: solve-best, Solve; it is heaviest, and the one
+//             that is named by partners: solve-heaviest, solve-first, Foremost.
+//   lists     an accepted list is a graph: listed-graph, Entries; the short list of a graph is it again: short-points,
+//             Short; a pairing in file order: filed-pairing, filed-in-order, filed-same, Filed.
+//   worked    the worked lists, computed: table, each-row, Worked; wrong turns that come out differently: WrongTurns.

@@ -1,0 +1,101 @@
+-- Slips and reduce. In order: the steps that a slip names stand, each on what the one before it left (`replay-fits`),
+-- and there are no more of them than cells (`slip-count`); the steps of reduce are allowed (`reduce-replay`), and after
+-- them none is (`reduce-ends`).
+use mathlib.Core.Path.{_≡_, refl, ap, ap₂, subst}
+use mathlib.Core.List.{List, [], _∷_, map}
+use mathlib.Core.Option.{Option, some, none}
+use Prim.Native.Nat.{ℕ, zero, suc, _+_, _≤_}
+use native.Mathlib.Omega.{arith}
+use lib.ListN.{length}
+use Rattle.matching.specs.Pairs.{Points}
+use Rattle.matching.specs.Graph.{Graph, cellsLeft}
+use Rattle.matching.specs.Steps.{Rule, Step, apply, name}
+use Rattle.matching.specs.Find.{stepAt, firstStep}
+use Rattle.matching.specs.Slip.{replay, left, reduce}
+use Rattle.matching.proofs.Fits.{Fits, Stands}
+use Rattle.matching.proofs.Find.{step-is, step-name, step-fits, first-step-is}
+use Rattle.matching.proofs.Tally.{cells-most}
+use Rattle.matching.proofs.Count.{step-fewer}
+use Rattle.matching.proofs.Exact.{step-graph}
+
+-- What replaying a slip tells, where all its steps are allowed.
+abbrev Replayed : Points → List (Rule × ℕ) → Option (List Step) → Type 0
+Replayed w slip none = Unit {0}
+Replayed w slip (some ss) = Stands w ss × (length ss ≡ length slip) × (map name ss ≡ slip)
+
+-- The steps of reduce, by the first step.
+abbrev steps : ℕ → ℕ → Points → Option Step → List Step
+steps k n w o = elim o [ none ↦ [] | some s ↦ s ∷ reduce k n (apply w s) ]
+
+-- a step more
+replay-more : (n : ℕ) (w : Points) (r : Rule × ℕ) (s : Step) (rs : List (Rule × ℕ)) (ss : List Step)
+    → stepAt n w (r .0) (r .1) ≡ some s → replay n (apply w s) rs ≡ some ss → replay n w (r ∷ rs) ≡ some (s ∷ ss)
+replay-more n w r s rs ss h k = rw (h, replay) (rw k)
+
+first-fits : {n : ℕ} {w : Points} → Graph n w → (s : Step) → firstStep n w ≡ some s → Fits w s
+first-fits g s h = step-fits g (name s .0) (name s .1) s (first-step-is g s h)
+
+replayed : {n : ℕ} {w : Points} → Graph n w → (slip : List (Rule × ℕ)) → Replayed w slip (replay n w slip)
+replayed g [] = (tt, refl, refl)
+replayed {n} {w} g (r ∷ rs) = go (stepAt n w (r .0) (r .1)) refl (λ s f. replayed (step-graph g s f) rs)
+  where
+    go : (o : Option Step) → stepAt n w (r .0) (r .1) ≡ o
+        → ((s : Step) → Fits w s → Replayed (apply w s) rs (replay n (apply w s) rs))
+        → Replayed w (r ∷ rs) (elim o [
+          | none ↦ none
+          | some s ↦ elim (replay n (apply w s) rs) [ none ↦ none | some ss ↦ some (s ∷ ss) ]
+        ])
+    go none e i = tt
+    go (some s) e i = on (replay n (apply w s) rs) (i s fits)
+      where
+        fits : Fits w s
+        fits = step-fits g (r .0) (r .1) s e
+
+        on : (o : Option (List Step)) → Replayed (apply w s) rs o
+            → Replayed w (r ∷ rs) (elim o [ none ↦ none | some ss ↦ some (s ∷ ss) ])
+        on none p = tt
+        on (some ss) p =
+            ((fits, p .0), ap suc (p .1), ap₂ _∷_ (step-name g (r .0) (r .1) s (step-is g (r .0) (r .1) s e)) (p .2))
+
+pub replay-fits : {n : ℕ} {w : Points} → Graph n w → (slip : List (Rule × ℕ)) (ss : List Step)
+    → replay n w slip ≡ some ss → Stands w ss × (length ss ≡ length slip) × (map name ss ≡ slip)
+replay-fits {w = w} g slip ss h = subst (Replayed w slip) h (replayed g slip)
+
+pub slip-count : {n : ℕ} {w : Points} → Graph n w → (ss : List Step) → Stands w ss
+    → length ss + cellsLeft n (left w ss) ≤ cellsLeft n w
+slip-count g [] st = omega arith
+slip-count {n} {w} g (s ∷ ss) st =
+    omega (arith, slip-count (step-graph g s (st .0)) ss (st .1), step-fewer g s (st .0))
+
+pub reduce-replay : (k : ℕ) {n : ℕ} {w : Points} → Graph n w
+    → replay n w (map name (reduce k n w)) ≡ some (reduce k n w)
+reduce-replay zero g = refl
+reduce-replay (suc k) {n} {w} g = go (firstStep n w) refl (λ s f. reduce-replay k (step-graph g s f))
+  where
+    go : (o : Option Step) → firstStep n w ≡ o
+        → ((s : Step) → Fits w s
+        → replay n (apply w s) (map name (reduce k n (apply w s))) ≡ some (reduce k n (apply w s)))
+        → replay n w (map name (steps k n w o)) ≡ some (steps k n w o)
+    go none e i = refl
+    go (some s) e i =
+        replay-more n w (name s) s (map name (reduce k n (apply w s))) (reduce k n (apply w s))
+        (first-step-is g s e) (i s (first-fits g s e))
+
+reduce-last : (k : ℕ) {n : ℕ} {w : Points} → Graph n w → cellsLeft n w ≤ k
+    → firstStep n (left w (reduce k n w)) ≡ none
+reduce-last zero {n} {w} g h = go (firstStep n w) refl
+  where
+    go : (o : Option Step) → firstStep n w ≡ o → o ≡ none
+    go none e = refl
+    go (some s) e = absurd (omega (arith, step-fewer g s (first-fits g s e)))
+reduce-last (suc k) {n} {w} g h = go (firstStep n w) refl (λ s f. reduce-last k (step-graph g s f))
+  where
+    go : (o : Option Step) → firstStep n w ≡ o
+        → ((s : Step) → Fits w s → cellsLeft n (apply w s) ≤ k
+        → firstStep n (left (apply w s) (reduce k n (apply w s))) ≡ none)
+        → firstStep n (left w (steps k n w o)) ≡ none
+    go none e i = e
+    go (some s) e i = let f = first-fits g s e in i s f (omega (arith, step-fewer g s f))
+
+pub reduce-ends : {n : ℕ} {w : Points} → Graph n w → firstStep n (left w (reduce n n w)) ≡ none
+reduce-ends {n} {w} g = reduce-last n g (cells-most n w)
