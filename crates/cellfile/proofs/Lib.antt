@@ -12,6 +12,8 @@ pub mod Forms
 pub mod Parts
 -- Writing into an output.
 pub mod Outputs
+-- The points of rows.
+pub mod RowPoints
 -- Weighing: cells that stand twice, the merge, and the layers of the call.
 pub mod Marks
 pub mod Repeated

@@ -8,3 +8,4 @@ pub mod Answers
 pub mod Weigh
 pub mod Reads
 pub mod Loops
+pub mod Row

@@ -1,0 +1,83 @@
+// Inner functions on the row of a ring or a chain, given as words in reading order: see specs/Row.
+ghost use mathlib.Core.Path.{_≡_};
+ghost use mathlib.Core.Logic.{_≢_};
+ghost use mathlib.Core.List.{List};
+ghost use Prim.Native.Nat.{ℕ, _*_, _<_, _≤_, max};
+ghost use lib.ListN.{length};
+ghost use Rattle.matching.specs.Pairs.{Points};
+ghost use Rattle.cellfile.specs.Row.{rowPoints, RowOf, heavy, ChainH, RingH};
+
+// H of a chain, of it less u, less v, and less both.
+pub struct ChainPoints {
+    pub whole: u64,
+    pub less_u: u64,
+    pub less_v: u64,
+    pub inner: u64,
+}
+
+// H of a ring, and of it less u.
+pub struct RingPoints {
+    pub whole: u64,
+    pub less_u: u64,
+}
+
+const POINTS_UNIT: u64 = 17592186044416;
+
+fn points_of(x: u64) -> u64
+    ensures { λ r. ⌜ (r ≡ rowPoints x) × (r < 17592186044416) ⌝ }
+{
+    x % POINTS_UNIT
+}
+
+fn larger(a: u64, b: u64) -> u64
+    ensures { λ r. ⌜ r ≡ max a b ⌝ }
+{
+    if a < b { b } else { a }
+}
+
+// The points of a heaviest pairing of a path, from its last pair on.
+fn path_points(words: &[u64]) -> u64
+    requires { ⌜ length (now words) ≤ 8192 ⌝ }
+    ensures { λ r. ⌜ (r ≡ heavy (now (words .entry))) × (r ≤ 17592186044416 * 8192) ⌝ }
+{
+    let mut best = 0;
+    let mut next = 0;
+    let mut i = words.len();
+    while 0 < i {
+        i -= 1;
+        let with = points_of(words[i]) + next;
+        next = best;
+        best = larger(best, with);
+    }
+    best
+}
+
+// H of the chain that the words are, whichever graph's.
+pub fn chain_points(words: &[u64]) -> ChainPoints
+    requires { ⌜ (3 ≤ length (now words)) × (length (now words) ≤ 8192) ⌝ }
+    ensures { λ r. ⌜ ((w : Points) (u : ℕ) (inner : List ℕ) (v : ℕ) → RowOf w u inner v (now (words .entry)) → u ≢ v
+        → ChainH w u inner v r) ⌝ }
+{
+    let e = words.len() - 1;
+    ChainPoints {
+        whole: path_points(words),
+        less_u: path_points(&words[1..]),
+        less_v: path_points(&words[0..e]),
+        inner: path_points(&words[1..e]),
+    }
+}
+
+// H of the ring that the words are, whichever graph's.
+pub fn ring_points(words: &[u64]) -> RingPoints
+    requires { ⌜ (3 ≤ length (now words)) × (length (now words) ≤ 8192) ⌝ }
+    ensures { λ r. ⌜ ((w : Points) (u : ℕ) (inner : List ℕ) → RowOf w u inner u (now (words .entry))
+        → RingH w u inner r) ⌝ }
+{
+    let e = words.len() - 1;
+    let without = path_points(&words[1..]);
+    let with = points_of(words[0]) + path_points(&words[2..e]);
+    RingPoints {
+        whole: larger(without, with),
+        less_u: path_points(&words[1..e]),
+    }
+}
