@@ -12,8 +12,9 @@ pub mod Forms
 pub mod Parts
 -- Writing into an output.
 pub mod Outputs
--- The points of rows.
+-- The points and the best of rows.
 pub mod RowPoints
+pub mod RowBest
 -- Weighing: cells that stand twice, the merge, and the layers of the call.
 pub mod Marks
 pub mod Repeated

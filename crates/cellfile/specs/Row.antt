@@ -2,12 +2,13 @@
 -- this; what they promise is H of crate matching.
 use Prim.Native.Nat.{ℕ, _+_, _*_, _%_, _<_, max}
 use mathlib.Core.Path.{_≡_}
-use mathlib.Core.Bool.{true, false}
+use mathlib.Core.Bool.{true, false, cond}
 use mathlib.Core.List.{List, [], _∷_, map}
+use lib.Dec.{eqb}
 use lib.ListN.{length}
 use Rattle.matching.specs.Lists.{mem, distinct}
-use Rattle.matching.specs.Pairs.{Points, Each}
-use Rattle.matching.specs.Best.{H, walk}
+use Rattle.matching.specs.Pairs.{Pair, Points, ι, Each}
+use Rattle.matching.specs.Best.{H, pays, tie, walk}
 use Rattle.cellfile.specs.declared.row.ChainPoints.{ChainPoints}
 use Rattle.cellfile.specs.declared.row.RingPoints.{RingPoints}
 
@@ -37,6 +38,25 @@ two (p ∷ ps) = (max (two ps .0) (p + two ps .1), two ps .0)
 
 abbrev pub heavy : List ℕ → ℕ
 heavy ws = two (map rowPoints ws) .0
+
+-- Whether each pair of a path pays, as 1 or 0, by what the pairs after it bring without it and with it; and the marks
+-- that stand: no mark right behind one that stands, b being the one before. Law: proofs/RowBest, `marked-path`.
+unfoldable pub paying : List ℕ → List ℕ
+paying [] = []
+paying (p ∷ ps) = ι (pays tie (two ps .0) (p + two ps .1)) ∷ paying ps
+
+unfoldable pub standing : ℕ → List ℕ → List ℕ
+standing b [] = []
+standing b (m ∷ ms) = cond (eqb b 1) 0 m ∷ standing (cond (eqb b 1) 0 m) ms
+
+abbrev pub pathMarks : List ℕ → List ℕ
+pathMarks ws = standing 0 (paying (map rowPoints ws))
+
+-- The pairs that have the mark 1.
+abbrev pub marked : List ℕ → List Pair → List Pair
+marked [] es = []
+marked (m ∷ ms) [] = []
+marked (m ∷ ms) (e ∷ es) = cond (eqb m 1) (e ∷ marked ms es) (marked ms es)
 
 -- H of a chain P, of P less u, of P less v, and of P less both.
 pub record ChainH (w : Points) (u : ℕ) (inner : List ℕ) (v : ℕ) (r : ChainPoints) : Type 0 where

@@ -1,11 +1,14 @@
 // Inner functions on the row of a ring or a chain, given as words in reading order: see specs/Row.
 ghost use mathlib.Core.Path.{_≡_};
 ghost use mathlib.Core.Logic.{_≢_};
-ghost use mathlib.Core.List.{List};
+ghost use mathlib.Core.Bool.{cond};
+ghost use mathlib.Core.List.{List, map};
 ghost use Prim.Native.Nat.{ℕ, _*_, _<_, _≤_, max};
+ghost use lib.Dec.{eqb};
 ghost use lib.ListN.{length};
-ghost use Rattle.matching.specs.Pairs.{Points};
-ghost use Rattle.cellfile.specs.Row.{rowPoints, RowOf, heavy, ChainH, RingH};
+ghost use Rattle.matching.specs.Pairs.{Points, ι};
+ghost use Rattle.matching.specs.Best.{pays, tie};
+ghost use Rattle.cellfile.specs.Row.{rowPoints, RowOf, heavy, paying, standing, pathMarks, ChainH, RingH};
 
 // H of a chain, of it less u, less v, and less both.
 pub struct ChainPoints {
@@ -80,4 +83,57 @@ pub fn ring_points(words: &[u64]) -> RingPoints
         whole: larger(without, with),
         less_u: path_points(&words[1..e]),
     }
+}
+
+// 1 where a pair pays, by what is had without it and with it: here stands the tie of chains and rings.
+fn pay(without: u64, with: u64) -> u64
+    ensures { λ r. ⌜ r ≡ ι (pays tie without with) ⌝ }
+{
+    if without < with { 1 } else { 0 }
+}
+
+// A mark as it stands behind the mark before it.
+fn stand(before: u64, mark: u64) -> u64
+    ensures { λ r. ⌜ r ≡ cond (eqb before 1) 0 mark ⌝ }
+{
+    if before == 1 { 0 } else { mark }
+}
+
+// Marks the pairs of a path that pay, from its last pair on.
+fn mark_paying(words: &[u64], marks: &mut [u64])
+    requires { ⌜ (length (now words) ≤ 8192) × (length (now marks) ≡ length (now words)) ⌝ }
+    ensures { λ _. ⌜ now (marks .exit) ≡ paying (map rowPoints (now (words .entry))) ⌝ }
+{
+    let mut best = 0;
+    let mut next = 0;
+    let mut i = words.len();
+    while 0 < i {
+        i -= 1;
+        let with = points_of(words[i]) + next;
+        marks[i] = pay(best, with);
+        next = best;
+        best = larger(best, with);
+    }
+}
+
+// Leaves no mark right behind one that stands.
+fn let_stand(marks: &mut [u64])
+    ensures { λ _. ⌜ now (marks .exit) ≡ standing 0 (now (marks .entry)) ⌝ }
+{
+    let mut before = 0;
+    let mut i = 0;
+    while i < marks.len() {
+        before = stand(before, marks[i]);
+        marks[i] = before;
+        i += 1;
+    }
+}
+
+// Marks the best of a path.
+pub fn mark_path(words: &[u64], marks: &mut [u64])
+    requires { ⌜ (length (now words) ≤ 8192) × (length (now marks) ≡ length (now words)) ⌝ }
+    ensures { λ _. ⌜ now (marks .exit) ≡ pathMarks (now (words .entry)) ⌝ }
+{
+    mark_paying(words, marks);
+    let_stand(marks);
 }

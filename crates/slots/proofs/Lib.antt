@@ -1,0 +1,15 @@
+-- The laws of the working graph in slots.
+pub mod Totals
+pub mod Keys
+pub mod Stores
+pub mod Graphs
+pub mod Links
+pub mod Appending
+pub mod Weights
+pub mod Lessening
+pub mod Leaving
+pub mod Packing
+pub mod Degrees
+pub mod Others
+pub mod Stepping
+pub mod Finding

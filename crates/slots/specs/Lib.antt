@@ -1,0 +1,3 @@
+-- The working graph in two lent buffers.
+pub mod Slots
+pub mod Found

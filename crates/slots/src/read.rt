@@ -1,0 +1,67 @@
+// Reading the graph that the buffers hold.
+use crate::words;
+ghost use mathlib.Core.Path.{_≡_};
+ghost use Prim.Native.Nat.{_+_, _-_, _<_};
+ghost use lib.ListN.{length};
+ghost use Rattle.matching.specs.Graph.{partners};
+ghost use Rattle.slots.specs.Slots.{Holds, graphOf, Joins};
+ghost use Rattle.slots.specs.Found.{FindSlot, Next, Only};
+
+// A cell with the slot of its pair.
+pub struct Other {
+    pub partner: usize,
+    pub slot: usize,
+}
+
+// The number of pairs that c has.
+pub fn degree(w1: &[u64], w2: &[u64], e: usize, c: usize) -> u64
+    requires { ⌜ (Holds e (now w1) (now w2)) × (c < 1024) ⌝ }
+    ensures { λ r. ⌜ r ≡ length (partners 1024 (graphOf e (now (w1 .entry))) c) ⌝ }
+{
+    w2[words::SUMS + c] / 70368744177664
+}
+
+// The only partner of a cell of degree one, with its slot.
+pub fn only(w1: &[u64], w2: &[u64], e: usize, c: usize) -> Other
+    requires { ⌜ (Holds e (now w1) (now w2)) × (c < 1024) × (length (partners 1024 (graphOf e (now w1)) c) ≡ 1) ⌝ }
+    ensures { λ r. ⌜ Only e (now (w1 .entry)) c r ⌝ }
+{
+    let k = w2[words::SUMS + c];
+    Other {
+        partner: (k / 16777216 % 4194304) as usize,
+        slot: (k % 16777216) as usize,
+    }
+}
+
+// The other pair of a cell of degree two, of which slot i joins it to prev.
+pub fn step_on(w1: &[u64], w2: &[u64], e: usize, c: usize, prev: usize, i: usize) -> Other
+    requires { ⌜ (Holds e (now w1) (now w2)) × (c < 1024) × Joins e (now w1) i prev c
+        × (length (partners 1024 (graphOf e (now w1)) c) ≡ 2) ⌝ }
+    ensures { λ r. ⌜ Next e (now (w1 .entry)) c prev r ⌝ }
+{
+    let t = w2[words::SUMS + c];
+    let k = t - words::key_of(prev, i);
+    Other {
+        partner: (k / 16777216 % 4194304) as usize,
+        slot: (k % 16777216) as usize,
+    }
+}
+
+// The live slot that joins u and v, its number + 1, or 0 where there is none.
+pub fn find(w1: &[u64], w2: &[u64], e: usize, u: usize, v: usize) -> usize
+    requires { ⌜ (Holds e (now w1) (now w2)) × (u < 1024) × (v < 1024) ⌝ }
+    ensures { λ r. ⌜ FindSlot e (now (w1 .entry)) u v r ⌝ }
+{
+    let mut i = w2[words::LASTS + u] as usize;
+    while i != 0 {
+        let at = i - 1;
+        let x = w1[words::CELL_WORDS + at];
+        if w1[at] != 0 {
+            if (x % 1024 + x / 1024 % 1024) as usize == u + v {
+                return i;
+            }
+        }
+        i = words::link(w1, at, u);
+    }
+    0
+}
