@@ -15,6 +15,7 @@ pub mod Outputs
 -- The points and the best of rows.
 pub mod RowPoints
 pub mod RowBest
+pub mod RowParts
 -- Weighing: cells that stand twice, the merge, and the layers of the call.
 pub mod Marks
 pub mod Repeated

@@ -8,14 +8,14 @@ use native.Mathlib.Omega.{arith}
 use native.Mathlib.Numerals.{add-one}
 use lib.Dec.{eqb}
 use borrow.Author.Tests.{lt-ltb, le-ltb}
-use lib.ListN.{length, take, drop, getD, set}
+use lib.ListN.{length, take, drop, getD, set, length-map}
 use lib.Seq.{drop-length, drop-cons, drop-set-lt, take-all, take-suc-set}
 use Rattle.matching.specs.Pairs.{Points, ι}
 use Rattle.matching.specs.Best.{H, pays, best, tie, walk}
 use Rattle.matching.proofs.Members.{mem-on, mem-head}
 use Rattle.matching.proofs.Best.{H-nil, best-nil, best-cons}
 use Rattle.matching.proofs.Path.{path-step}
-use Rattle.cellfile.specs.Row.{rowPoints, two, paying, standing, marked}
+use Rattle.cellfile.specs.Row.{rowPoints, two, paying, standing, pathMarks, marked}
 use Rattle.cellfile.proofs.RowPoints.{along, Apart, apart-next, fresh, second-barred, two-none, two-path}
 use Rattle.cellfile.proofs.RowPoints.{twoFrom, map-from}
 use Rattle.cellfile.proofs.Outputs.{set-drop}
@@ -36,6 +36,22 @@ standing-cons : (b m : ℕ) (ms : List ℕ)
     → standing b (m ∷ ms) ≡ cond (eqb b 1) 0 m ∷ standing (cond (eqb b 1) 0 m) ms
 unfolding standing
 standing-cons b m ms = refl
+
+-- as many marks as words
+length-paying : (ps : List ℕ) → length (paying ps) ≡ length ps
+length-paying [] = ap length paying-nil
+length-paying (p ∷ ps) = ap length (paying-cons p ps) ∙ ap suc (length-paying ps)
+
+length-standing : (b : ℕ) (ms : List ℕ) → length (standing b ms) ≡ length ms
+length-standing b [] = ap length (standing-nil b)
+length-standing b (m ∷ ms) = ap length (standing-cons b m ms) ∙ ap suc (length-standing (cond (eqb b 1) 0 m) ms)
+
+pub length-marks : (ws : List ℕ) → length (pathMarks ws) ≡ length ws
+length-marks ws =
+    length-standing 0 (paying (map rowPoints ws)) ∙ length-paying (map rowPoints ws) ∙ length-map ws rowPoints
+
+pub no-marks : pathMarks [] ≡ []
+no-marks = ap (standing 0) paying-nil ∙ standing-nil 0
 
 -- the marks of the pairs of a path
 abbrev marks : Points → ℕ → List ℕ → ℕ → List ℕ

@@ -1,14 +1,15 @@
 -- The row of a ring or a chain as words in reading order, and the points of its heaviest pairings. Inner contracts cite
 -- this; what they promise is H of crate matching.
-use Prim.Native.Nat.{ℕ, _+_, _*_, _%_, _<_, max}
+use Prim.Native.Nat.{ℕ, _+_, _*_, _-_, _%_, _<_, max}
 use mathlib.Core.Path.{_≡_}
-use mathlib.Core.Bool.{true, false, cond}
-use mathlib.Core.List.{List, [], _∷_, map}
+use mathlib.Core.Bool.{Bool, true, false, cond}
+use mathlib.Core.List.{List, [], _∷_, _++_, map}
 use lib.Dec.{eqb}
-use lib.ListN.{length}
+use lib.ListN.{length, take, drop}
 use Rattle.matching.specs.Lists.{mem, distinct}
 use Rattle.matching.specs.Pairs.{Pair, Points, ι, Each}
-use Rattle.matching.specs.Best.{H, pays, tie, walk}
+use Rattle.matching.specs.Best.{H, pays, best, tie, walk}
+use Rattle.cellfile.specs.Files.{zeros}
 use Rattle.cellfile.specs.declared.row.ChainPoints.{ChainPoints}
 use Rattle.cellfile.specs.declared.row.RingPoints.{RingPoints}
 
@@ -52,6 +53,10 @@ standing b (m ∷ ms) = cond (eqb b 1) 0 m ∷ standing (cond (eqb b 1) 0 m) ms
 abbrev pub pathMarks : List ℕ → List ℕ
 pathMarks ws = standing 0 (paying (map rowPoints ws))
 
+-- The marks of the part of the words from place a to before place e.
+abbrev pub partMarks : ℕ → ℕ → List ℕ → List ℕ
+partMarks a e ws = zeros a ++ (pathMarks (take (e - a) (drop a ws)) ++ zeros (length ws - e))
+
 -- The pairs that have the mark 1.
 abbrev pub marked : List ℕ → List Pair → List Pair
 marked [] es = []
@@ -69,3 +74,10 @@ pub record ChainH (w : Points) (u : ℕ) (inner : List ℕ) (v : ℕ) (r : Chain
 pub record RingH (w : Points) (u : ℕ) (inner : List ℕ) (r : RingPoints) : Type 0 where
   pub whole : r .whole ≡ H w [] (walk u inner u)
   pub less-u : r .«less_u» ≡ H w (u ∷ []) (walk u inner u)
+
+-- The marks are the best of a chain or ring that keeps these cells free.
+abbrev pub less : Bool → ℕ → List ℕ
+less t c = cond t (c ∷ []) []
+
+abbrev pub RowBest : Points → List ℕ → ℕ → List ℕ → ℕ → List ℕ → Type 0
+RowBest w off u inner v marks = marked marks (walk u inner v) ≡ best tie w off (walk u inner v)

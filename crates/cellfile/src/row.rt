@@ -1,14 +1,16 @@
 // Inner functions on the row of a ring or a chain, given as words in reading order: see specs/Row.
+use crate::work::clear;
 ghost use mathlib.Core.Path.{_≡_};
 ghost use mathlib.Core.Logic.{_≢_};
 ghost use mathlib.Core.Bool.{cond};
-ghost use mathlib.Core.List.{List, map};
+ghost use mathlib.Core.List.{List, _++_, map};
 ghost use Prim.Native.Nat.{ℕ, _*_, _<_, _≤_, max};
 ghost use lib.Dec.{eqb};
 ghost use lib.ListN.{length};
 ghost use Rattle.matching.specs.Pairs.{Points, ι};
 ghost use Rattle.matching.specs.Best.{pays, tie};
-ghost use Rattle.cellfile.specs.Row.{rowPoints, RowOf, heavy, paying, standing, pathMarks, ChainH, RingH};
+ghost use Rattle.cellfile.specs.Row.{rowPoints, RowOf, heavy, paying, standing, ChainH, RingH};
+ghost use Rattle.cellfile.specs.Row.{pathMarks, partMarks, less, RowBest};
 
 // H of a chain, of it less u, less v, and less both.
 pub struct ChainPoints {
@@ -130,10 +132,59 @@ fn let_stand(marks: &mut [u64])
 }
 
 // Marks the best of a path.
-pub fn mark_path(words: &[u64], marks: &mut [u64])
+fn mark_path(words: &[u64], marks: &mut [u64])
     requires { ⌜ (length (now words) ≤ 8192) × (length (now marks) ≡ length (now words)) ⌝ }
     ensures { λ _. ⌜ now (marks .exit) ≡ pathMarks (now (words .entry)) ⌝ }
 {
     mark_paying(words, marks);
     let_stand(marks);
+}
+
+// Marks the best of the part of the words from place a to before place e.
+fn mark_part(words: &[u64], a: usize, e: usize, marks: &mut [u64])
+    requires { ⌜ (a ≤ e) × (e ≤ length (now words)) × (length (now words) ≤ 8192)
+        × (length (now marks) ≡ length (now words)) ⌝ }
+    ensures { λ _. ⌜ now (marks .exit) ≡ partMarks a e (now (words .entry)) ⌝ }
+{
+    clear(marks);
+    mark_path(&words[a..e], &mut marks[a..e]);
+}
+
+// How many pairs are left aside at an end.
+fn aside(less: bool) -> usize
+    ensures { λ r. ⌜ (r ≡ ι less) × (r ≤ 1) ⌝ }
+{
+    if less { 1 } else { 0 }
+}
+
+// Marks the best of the chain that the words are, less u, less v or less both, whichever graph's.
+pub fn mark_chain(words: &[u64], less_u: bool, less_v: bool, marks: &mut [u64])
+    requires { ⌜ (3 ≤ length (now words)) × (length (now words) ≤ 8192) × (length (now marks) ≡ length (now words)) ⌝ }
+    ensures { λ _. ⌜ ((w : Points) (u : ℕ) (inner : List ℕ) (v : ℕ) → RowOf w u inner v (now (words .entry)) → u ≢ v
+        → RowBest w (less «less_u» u ++ less «less_v» v) u inner v (now (marks .exit))) ⌝ }
+{
+    let a = aside(less_u);
+    let e = words.len() - aside(less_v);
+    mark_part(words, a, e, marks);
+}
+
+// Marks the best of the ring that the words are, or of it less u, whichever graph's.
+pub fn mark_ring(words: &[u64], less_u: bool, marks: &mut [u64])
+    requires { ⌜ (3 ≤ length (now words)) × (length (now words) ≤ 8192) × (length (now marks) ≡ length (now words)) ⌝ }
+    ensures { λ _. ⌜ ((w : Points) (u : ℕ) (inner : List ℕ) → RowOf w u inner u (now (words .entry))
+        → RowBest w (less «less_u» u) u inner u (now (marks .exit))) ⌝ }
+{
+    let e = words.len() - 1;
+    if less_u {
+        mark_part(words, 1, e, marks);
+        return;
+    }
+    let without = path_points(&words[1..]);
+    let with = points_of(words[0]) + path_points(&words[2..e]);
+    if pay(without, with) == 0 {
+        mark_part(words, 1, e + 1, marks);
+        return;
+    }
+    mark_part(words, 2, e, marks);
+    marks[0] = 1;
 }

@@ -1,6 +1,6 @@
 -- `chain_points` answers H of the chain and of its three parts.
 use mathlib.Core.Path.{_∙_}
-use Rattle.cellfile.proofs.RowPoints.{chain-h}
+use Rattle.cellfile.proofs.RowParts.{chain-h}
 use borrow.Author.Needs.{needs}
 use Rattle.cellfile.proofs.row.chain_points.Statement.{statement}
 use Rattle.cellfile.proofs.row.chain_points.Tie as tie

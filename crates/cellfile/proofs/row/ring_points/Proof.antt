@@ -1,7 +1,7 @@
 -- `ring_points` answers H of the ring, by its first pair left out or taken, and of the ring less u.
 use Prim.Native.Nat.{_+_, max}
 use mathlib.Core.Path.{ap₂, _∙_}
-use Rattle.cellfile.proofs.RowPoints.{ring-h}
+use Rattle.cellfile.proofs.RowParts.{ring-h}
 use borrow.Author.Needs.{needs}
 use Rattle.cellfile.proofs.row.ring_points.Statement.{statement}
 use Rattle.cellfile.proofs.row.ring_points.Tie as tie
