@@ -1,5 +1,5 @@
 -- The partners of a cell. In order: x is a partner of c just where 0 < w c x (`partnerT`), and on a graph of n cells n
--- is enough; the partners ascend, so that none stands twice; a cell with one partner, a cell with two (`Between`).
+-- is enough (`partners-more`); the partners ascend, so that none stands twice; a cell with one partner, a cell with two (`Between`).
 use mathlib.Core.Path.{_≡_, refl, sym, ap, _∙_}
 use mathlib.Core.Logic.{_⊎_, inl, inr, _≢_, ⊎-map, ⊎-swap}
 use mathlib.Core.Bool.{Bool, true, false, cond, _||_}
@@ -38,6 +38,20 @@ partnerT (suc n) w c x =
         gone : x < suc n → {t : Bool} → Test (n ≡ x) (n ≢ x) t → w c x ≡ 0
         gone h (pass e) = rw (← e) (omega arith)
         gone h (fail d) = m (omega arith)
+
+-- more cells than a graph has bring no partner
+pub partners-more : {n : ℕ} {w : Points} → Graph n w → (k c : ℕ) → n ≤ k → partners k w c ≡ partners n w c
+unfolding partners
+partners-more {n} {w} g zero c h = ap (λ i. partners i w c) {x = 0} {y = n} (omega arith)
+partners-more {n} {w} g (suc k) c h = go (eqT n (suc k)) (λ l. partners-more g k c l)
+  where
+    go : {t : Bool} → Test (n ≡ suc k) (n ≢ suc k) t → (n ≤ k → partners k w c ≡ partners n w c)
+        → partners (suc k) w c ≡ partners n w c
+    go (pass e) i = ap (λ m. partners m w c) (sym e)
+    go (fail d) i =
+        ap (λ x. partners k w c ++ cond (ltb 0 x) (k ∷ []) []) (g .top c k (omega (arith, d)))
+        ∙ append-nil (partners k w c)
+        ∙ i (omega (arith, d))
 
 -- ---- in which order
 
