@@ -22,8 +22,10 @@ same-length-2 c = search needs
 
 returns : tie.Need-returns
 returns c =
-    let w = c .before .before .before .before .before .before .before .before .before .before .weigh-in in
-    (w .ensures, (c .before .before .before .before .before .before .clear .ensures ∙ ap zeros (w .kept .1 .1 .0), c .before .before .clear2 .ensures))
+    let at-clear = c .before .before .before .before .before .before in
+    let at-weigh-in = at-clear .before .before .before .before in
+    let w = at-weigh-in .weigh-in in
+    (w .ensures, (at-clear .clear .ensures ∙ ap zeros (w .kept .1 .1 .0), c .before .before .clear2 .ensures))
 
 pub weigh-spec : {M : Type 1} → statement M
 weigh-spec =

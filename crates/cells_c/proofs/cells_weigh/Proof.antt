@@ -23,9 +23,11 @@ same-length-2 c = search needs
 
 returns : tie.Need-returns
 returns c =
-    let w = c .before .before .before .before .before .before .before .weigh .ensures in
+    let at-weigh = c .before .before .before .before .before .before .before in
+    let start = at-weigh .before .before .before .before .before .before .before in
+    let w = at-weigh .weigh .ensures in
     let e = ap weighed (sym (c .before .k .given .1)) ∙ w .0 in
-    (ap (λ (a : Answer). a .0) e, (ap (valueOr 0 (c .before .before .before .before .before .before .before .before .before .before .before .before .before .before .args .points .now)) e, w .1))
+    (ap (λ (a : Answer). a .0) e, (ap (valueOr 0 (start .args .points .now)) e, w .1))
 
 same-length-3 : tie.Need-same-length-3
 same-length-3 c = search needs
@@ -35,9 +37,11 @@ same-length-4 c = search needs
 
 returns-2 : tie.Need-returns-2
 returns-2 c =
-    let w = c .before .before .before .before .before .before .before .weigh .ensures in
+    let at-weigh = c .before .before .before .before .before .before .before in
+    let start = at-weigh .before .before .before .before .before .before .before in
+    let w = at-weigh .weigh .ensures in
     let e = ap weighed (sym (c .before .p .given .1)) ∙ w .0 in
-    (ap (λ (a : Answer). a .0) e, (ap (valueOr 0 (c .before .before .before .before .before .before .before .before .before .before .before .before .before .before .args .points .now)) e, w .1))
+    (ap (λ (a : Answer). a .0) e, (ap (valueOr 0 (start .args .points .now)) e, w .1))
 
 pub cells-weigh-spec : {M : Type 1} → statement M
 cells-weigh-spec =

@@ -68,15 +68,18 @@ returns-2 c =
 
 returns-3 : tie.Need-returns-3 Inv-loop μ-loop
 returns-3 c =
+    let at-if1 = c .before .before .before .before in
     let g = c .before .before .before .before .before .before in
     sym (g .before .before .before .loop .inv .2
-    ∙ pairs-zeros _ _ _ _ (g .before .before .loop-test .taken) _ (here g) _ (c .before .before .before .before .if1 .left) (c .before .before .if2 .left) (c .if3 .taken))
+    ∙ pairs-zeros _ _ _ _ (g .before .before .loop-test .taken) _ (here g) _ (at-if1 .if1 .left) (c .before .before .if2 .left) (c .if3 .taken))
 
 returns-4 : tie.Need-returns-4 Inv-loop μ-loop
 returns-4 c =
+    let at-if2 = c .before .before .before in
+    let at-if1 = at-if2 .before .before in
     let g = c .before .before .before .before .before .before .before in
     sym (g .before .before .before .loop .inv .2
-    ∙ pairs-low _ _ _ _ (g .before .before .loop-test .taken) _ (here g) _ (c .before .before .before .before .before .if1 .left) (c .before .before .before .if2 .left) (c .before .if3 .left) (c .if4 .taken))
+    ∙ pairs-low _ _ _ _ (g .before .before .loop-test .taken) _ (here g) _ (at-if1 .if1 .left) (at-if2 .if2 .left) (c .before .if3 .left) (c .if4 .taken))
 
 add-low : tie.Need-add-low Inv-loop μ-loop
 add-low c = search needs
@@ -89,11 +92,13 @@ loop-less c = search needs
 
 loop-again : tie.Need-loop-again Inv-loop μ-loop
 loop-again c =
+    let at-if2 = c .before .before .before in
+    let at-if1 = at-if2 .before .before in
     let g = c .before .before .before .before .before .before .before in (
       omega arith,
       omega (arith, g .pair-at .ensures .a-fits),
       g .before .before .before .loop .inv .2
-          ∙ pairs-next _ _ _ _ (g .before .before .loop-test .taken) _ (here g) _ (c .before .before .before .before .before .if1 .left) (c .before .before .before .if2 .left) (c .before .if3 .left) (c .if4 .left),
+          ∙ pairs-next _ _ _ _ (g .before .before .loop-test .taken) _ (here g) _ (at-if1 .if1 .left) (at-if2 .if2 .left) (c .before .if3 .left) (c .if4 .left),
     )
 
 returns-5 : tie.Need-returns-5 Inv-loop μ-loop

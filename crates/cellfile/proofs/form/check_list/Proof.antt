@@ -59,7 +59,9 @@ returns-4 c =
     (stray-is _ _ (g .before .header-at .ensures) ∙ sym (c .before .stray-entry .ensures) ∙ c .if4 .taken)
 
 not-5 : (g : tie.Else4) → strayEntry storeList (g .before .before .before .before .before .before .before .before .before .args .list .now) ≡ false
-not-5 g = stray-is _ _ (g .before .before .before .header-at .ensures) ∙ sym (g .before .stray-entry .ensures) ∙ g .if4 .left
+not-5 g =
+    let at-header-at = g .before .before .before in
+    stray-is _ _ (at-header-at .header-at .ensures) ∙ sym (g .before .stray-entry .ensures) ∙ g .if4 .left
 
 unordered-requires : tie.Need-unordered-requires
 unordered-requires c κs = (small (c .before .before .before) .1, omega arith)

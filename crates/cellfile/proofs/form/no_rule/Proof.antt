@@ -78,7 +78,8 @@ loop-again c =
 
 returns-3 : tie.Need-returns-3 Inv-loop μ-loop
 returns-3 c =
-    let a = c .before .before .before .args in
+    let start = c .before .before .before in
+    let a = start .args in
     sym (c .before .loop .inv .1 ∙ ap ruleless (from-end (slip .entry) (a .slip .now) 4 (a .m) (c .before .loop .i) (c .loop-test .left)))
 
 pub no-rule-spec : {M : Type 1} → statement M

@@ -82,8 +82,9 @@ loop-again c =
 
 returns-3 : tie.Need-returns-3 Inv-loop μ-loop
 returns-3 c =
+    let start = c .before .before .before in
     let l = c .before .loop in
-    let a = c .before .before .before .args in
+    let a = start .args in
     sym (l .inv .1 ∙ ap (stray (a .n)) (from-end (storeList .entry) (a .list .now) 4 (a .m) (l .i) (c .loop-test .left)))
 
 pub stray-entry-spec : {M : Type 1} → statement M

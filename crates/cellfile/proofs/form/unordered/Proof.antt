@@ -91,8 +91,9 @@ loop-again c =
 
 returns-2 : tie.Need-returns-2 Inv-loop μ-loop
 returns-2 c =
+    let start = c .before .before .before in
     let l = c .before .loop in
-    let a = c .before .before .before .args in
+    let a = start .args in
     sym (ap not (l .inv .2 ∙ ap (λ rs. ascendingFrom (l .low) (keys rs)) (from-end (storeList .entry) (a .list .now) 4 (a .m) (l .i) (c .loop-test .left))))
 
 pub unordered-spec : {M : Type 1} → statement M

@@ -12,24 +12,42 @@ header-at-requires : tie.Need-header-at-requires
 header-at-requires c κs = search needs
 
 returns-2 : tie.Need-returns-2
-returns-2 c = head-kind _ _ _ _ _ (c .before .before .header-at .ensures) (c .before .before .before .if1 .left) (c .if2 .taken)
+returns-2 c =
+    let at-if1 = c .before .before .before in
+    head-kind _ _ _ _ _ (c .before .before .header-at .ensures) (at-if1 .if1 .left) (c .if2 .taken)
 
 returns-3 : tie.Need-returns-3
-returns-3 c = head-cells _ _ _ _ _ (c .before .before .before .before .header-at .ensures) (c .before .before .before .before .before .if1 .left) (c .before .before .if2 .left) (c .if3 .taken)
+returns-3 c =
+    let at-header-at = c .before .before .before .before in
+    let at-if1 = at-header-at .before in
+    head-cells _ _ _ _ _ (at-header-at .header-at .ensures) (at-if1 .if1 .left) (c .before .before .if2 .left) (c .if3 .taken)
 
 returns-4 : tie.Need-returns-4
 returns-4 c =
-    head-zeros _ _ _ _ _ (c .before .before .before .before .before .before .header-at .ensures) (c .before .before .before .before .before .before .before .if1 .left) (c .before .before .before .before .if2 .left) (c .before .before .if3 .left) (c .if4 .taken)
+    let at-if2 = c .before .before .before .before in
+    let at-header-at = at-if2 .before .before in
+    let at-if1 = at-header-at .before in
+    head-zeros _ _ _ _ _ (at-header-at .header-at .ensures) (at-if1 .if1 .left) (at-if2 .if2 .left) (c .before .before .if3 .left) (c .if4 .taken)
 
 mul-result : tie.Need-mul-result
-mul-result c = omega (arith, entries-fit _ _ (c .before .before .before .before .before .before .before .before .before .before .pre) (c .before .before .before .before .before .before .before .header-at .ensures .m-fits))
+mul-result c =
+    let at-header-at = c .before .before .before .before .before .before .before in
+    let start = at-header-at .before .before .before in
+    omega (arith, entries-fit _ _ (start .pre) (at-header-at .header-at .ensures .m-fits))
 
 add-result : tie.Need-add-result
-add-result c = omega (arith, entries-fit _ _ (c .before .before .before .before .before .before .before .before .before .before .pre) (c .before .before .before .before .before .before .before .header-at .ensures .m-fits))
+add-result c =
+    let at-header-at = c .before .before .before .before .before .before .before in
+    let start = at-header-at .before .before .before in
+    omega (arith, entries-fit _ _ (start .pre) (at-header-at .header-at .ensures .m-fits))
 
 returns-5 : tie.Need-returns-5
 returns-5 c =
-    head-length _ _ _ _ _ (c .before .before .before .before .before .before .before .header-at .ensures) (c .before .before .before .before .before .before .before .before .if1 .left) (c .before .before .before .before .before .if2 .left) (c .before .before .before .if3 .left) (c .before .if4 .left)
+    let at-if3 = c .before .before .before in
+    let at-if2 = at-if3 .before .before in
+    let at-header-at = at-if2 .before .before in
+    let at-if1 = at-header-at .before in
+    head-length _ _ _ _ _ (at-header-at .header-at .ensures) (at-if1 .if1 .left) (at-if2 .if2 .left) (at-if3 .if3 .left) (c .before .if4 .left)
 
 pub wrong-head-spec : {M : Type 1} → statement M
 wrong-head-spec =

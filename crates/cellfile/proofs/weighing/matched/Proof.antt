@@ -30,10 +30,14 @@ other g = g .before .before .before .before .before .before .before .before .bef
 
 -- the entry and the pair read are those at places i and j
 entry : (g : tie.After-pair-at Inv-loop μ-loop) → EntryRead (drop (4 + 5 * g .before .before .before .before .before .before .loop .i) (list g)) (g .before .before .entry-at .result)
-entry g = part (λ s. EntryRead s (g .before .before .entry-at .result)) (list g) (4 + 5 * g .before .before .before .before .before .before .loop .i) (g .before .before .entry-at .ensures)
+entry g =
+    let at-loop = g .before .before .before .before .before .before in
+    part (λ s. EntryRead s (g .before .before .entry-at .result)) (list g) (4 + 5 * at-loop .loop .i) (g .before .before .entry-at .ensures)
 
 pair : (g : tie.After-pair-at Inv-loop μ-loop) → PairRead (drop (4 + 3 * g .before .before .before .before .before .before .loop .j) (other g)) (g .pair-at .result)
-pair g = part (λ s. PairRead s (g .pair-at .result)) (other g) (4 + 3 * g .before .before .before .before .before .before .loop .j) (g .pair-at .ensures)
+pair g =
+    let at-loop = g .before .before .before .before .before .before in
+    part (λ s. PairRead s (g .pair-at .result)) (other g) (4 + 3 * at-loop .loop .j) (g .pair-at .ensures)
 
 loop-holds : tie.Need-loop-holds Inv-loop μ-loop
 loop-holds c =
@@ -104,7 +108,11 @@ add-i : tie.Need-add-i Inv-loop μ-loop
 add-i c = search needs
 
 add-points : tie.Need-add-points Inv-loop μ-loop
-add-points c = omega (arith, c .before .before .before .before .before .before .before .before .before .before .before .before .before .loop .inv, c .before .before .before .before .before .before .before .before .before .entry-at .ensures .points-fit, c .before .before .before .before .before .before .before .before .before .before .before .before .before .before .before .before .pre)
+add-points c =
+    let at-entry-at = c .before .before .before .before .before .before .before .before .before in
+    let at-loop = at-entry-at .before .before .before .before in
+    let start = at-loop .before .before .before in
+    omega (arith, at-loop .loop .inv, at-entry-at .entry-at .ensures .points-fit, start .pre)
 
 add-j : tie.Need-add-j Inv-loop μ-loop
 add-j c = search needs

@@ -39,11 +39,12 @@ here g = part (λ s. PairRead s (g .pair-at .result)) (bytes g) (at g) (g .pair-
 
 loop-holds : tie.Need-loop-holds Inv-loop μ-loop
 loop-holds c =
-    let a = c .before .before .before .before .before .before .args in (
+    let start = c .before .before .before .before .before .before in
+    let a = start .args in (
       omega arith,
       refl,
-      omega (arith, c .before .before .clear .kept, c .before .before .before .before .before .before .pre),
-      twice-start (a .pairing .now) (a .m) (length (a .marks .now)) (c .before .before .before .before .before .before .pre .2) (c .before .before .clear .ensures),
+      omega (arith, c .before .before .clear .kept, start .pre),
+      twice-start (a .pairing .now) (a .m) (length (a .marks .now)) (start .pre .2) (c .before .before .clear .ensures),
     )
 
 mul-at : tie.Need-mul-at Inv-loop μ-loop
@@ -88,10 +89,17 @@ mul-if2 : tie.Need-mul-if2 Inv-loop μ-loop
 mul-if2 c = search needs
 
 slice-read-if2 : tie.Need-slice-read-if2 Inv-loop μ-loop
-slice-read-if2 c = simp length-set (omega (arith, c .before .before .before .pair-at .ensures .b-fits, c .before .before .before .before .before .before .loop .inv))
+slice-read-if2 c =
+    let at-pair-at = c .before .before .before in
+    let at-loop = at-pair-at .before .before .before in
+    simp length-set (omega (arith, at-pair-at .pair-at .ensures .b-fits, at-loop .loop .inv))
 
 same-length-2 : tie.Need-same-length-2 Inv-loop μ-loop
-same-length-2 c = length-set (c .before .before .before .before .before .before .before .loop .marks) (c .before .before .before .before .pair-at .result .a) 1 ∙ c .before .before .before .before .before .before .before .loop .inv .1 ∙ c .before .before .before .before .before .before .before .before .before .before .clear .kept .0
+same-length-2 c =
+    let at-pair-at = c .before .before .before .before in
+    let at-loop = at-pair-at .before .before .before in
+    let at-clear = at-loop .before .before .before in
+    length-set (at-loop .loop .marks) (at-pair-at .pair-at .result .a) 1 ∙ at-loop .loop .inv .1 ∙ at-clear .clear .kept .0
 
 returns-2 : tie.Need-returns-2 Inv-loop μ-loop
 returns-2 c =
@@ -103,7 +111,10 @@ mul-marks-2 : tie.Need-mul-marks-2 Inv-loop μ-loop
 mul-marks-2 c = search needs
 
 slice-write-marks-2 : tie.Need-slice-write-marks-2 Inv-loop μ-loop
-slice-write-marks-2 c = simp length-set (omega (arith, c .before .before .before .before .pair-at .ensures .b-fits, c .before .before .before .before .before .before .before .loop .inv))
+slice-write-marks-2 c =
+    let at-pair-at = c .before .before .before .before in
+    let at-loop = at-pair-at .before .before .before in
+    simp length-set (omega (arith, at-pair-at .pair-at .ensures .b-fits, at-loop .loop .inv))
 
 add-i : tie.Need-add-i Inv-loop μ-loop
 add-i c = search needs

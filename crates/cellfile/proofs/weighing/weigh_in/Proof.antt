@@ -24,21 +24,30 @@ enum-known-n c = search needs
 
 weigh-list-requires : tie.Need-weigh-list-requires
 weigh-list-requires c κs =
-    let a = list-accepted _ (ap checked (sym (c .before .before .n .given .1)) ∙ c .before .before .before .before .check-list .ensures) in
-    (a .0, a .1, a .2, omega (arith, c .before .before .before .before .before .before .if1 .left))
+    let at-check-list = c .before .before .before .before in
+    let at-if1 = at-check-list .before .before in
+    let a = list-accepted _ (ap checked (sym (c .before .before .n .given .1)) ∙ at-check-list .check-list .ensures) in
+    (a .0, a .1, a .2, omega (arith, at-if1 .if1 .left))
 
 returns-3 : tie.Need-returns-3
 returns-3 c =
-    enough-words _ _ _ _ (c .before .before .before .before .before .if1 .left) (c .before .before .before .before .if2 .left)
-    (list-refused _ _ _ _ (ap checked (sym (c .before .r .given .1)) ∙ c .before .before .before .check-list .ensures))
+    let at-check-list = c .before .before .before in
+    let at-if2 = at-check-list .before in
+    let at-if1 = at-if2 .before in
+    enough-words _ _ _ _ (at-if1 .if1 .left) (at-if2 .if2 .left)
+    (list-refused _ _ _ _ (ap checked (sym (c .before .r .given .1)) ∙ at-check-list .check-list .ensures))
 
 same-length : tie.Need-same-length
 same-length c = search needs
 
 returns-4 : tie.Need-returns-4
 returns-4 c =
-    let a = list-accepted _ (ap checked (sym (c .before .before .before .before .before .n .given .1)) ∙ c .before .before .before .before .before .before .before .check-list .ensures) in
-    enough-words _ _ _ _ (c .before .before .before .before .before .before .before .before .before .if1 .left) (c .before .before .before .before .before .before .before .before .if2 .left) (list-passed _ _ _ (a .0) (c .before .before .weigh-list .ensures))
+    let at-n = c .before .before .before .before .before in
+    let at-check-list = at-n .before .before in
+    let at-if2 = at-check-list .before in
+    let at-if1 = at-if2 .before in
+    let a = list-accepted _ (ap checked (sym (at-n .n .given .1)) ∙ at-check-list .check-list .ensures) in
+    enough-words _ _ _ _ (at-if1 .if1 .left) (at-if2 .if2 .left) (list-passed _ _ _ (a .0) (c .before .before .weigh-list .ensures))
 
 pub weigh-in-spec : {M : Type 1} → statement M
 weigh-in-spec =

@@ -17,21 +17,28 @@ enum-known-k c = search needs
 
 weigh-pairs-requires : tie.Need-weigh-pairs-requires
 weigh-pairs-requires c κs =
-    let p = c .before .before .before .before .before .before .before .before .pre in
-    let a = pairing-accepted _ _ (p .1) (ap checked (sym (c .before .before .k .given .1)) ∙ c .before .before .before .before .check-pairing .ensures) in
+    let at-check-pairing = c .before .before .before .before in
+    let start = at-check-pairing .before .before .before .before in
+    let p = start .pre in
+    let a = pairing-accepted _ _ (p .1) (ap checked (sym (c .before .before .k .given .1)) ∙ at-check-pairing .check-pairing .ensures) in
     ((p .0, a .0), (p .2, a .1, p .3))
 
 returns : tie.Need-returns
 returns c =
-    pairing-refused _ _ (c .before .before .before .before .before .before .before .pre .1) _ _ (ap checked (sym (c .before .r .given .1)) ∙ c .before .before .before .check-pairing .ensures)
+    let at-check-pairing = c .before .before .before in
+    let start = at-check-pairing .before .before .before .before in
+    pairing-refused _ _ (start .pre .1) _ _ (ap checked (sym (c .before .r .given .1)) ∙ at-check-pairing .check-pairing .ensures)
 
 same-length : tie.Need-same-length
 same-length c = search needs
 
 returns-2 : tie.Need-returns-2
 returns-2 c =
-    let p = c .before .before .before .before .before .before .before .before .before .before .before .pre in
-    let a = pairing-accepted _ _ (p .1) (ap checked (sym (c .before .before .before .before .before .k .given .1)) ∙ c .before .before .before .before .before .before .before .check-pairing .ensures) in
+    let at-k = c .before .before .before .before .before in
+    let at-check-pairing = at-k .before .before in
+    let start = at-check-pairing .before .before .before .before in
+    let p = start .pre in
+    let a = pairing-accepted _ _ (p .1) (ap checked (sym (at-k .k .given .1)) ∙ at-check-pairing .check-pairing .ensures) in
     pairing-passed _ _ (p .1) _ (a .0) (c .before .before .weigh-pairs .ensures)
 
 pub weigh-list-spec : {M : Type 1} → statement M

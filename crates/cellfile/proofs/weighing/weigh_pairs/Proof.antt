@@ -15,8 +15,10 @@ same-length c = search needs
 
 returns : tie.Need-returns
 returns c =
-    let p = c .before .before .before .before .before .before .before .before .pre in
-    pairs-twice _ _ (p .0 .0) (p .0 .1) (p .1 .0) (p .1 .1) (c .before .before .before .repeated .ensures) (c .if1 .taken)
+    let at-repeated = c .before .before .before in
+    let start = at-repeated .before .before .before .before .before in
+    let p = start .pre in
+    pairs-twice _ _ (p .0 .0) (p .0 .1) (p .1 .0) (p .1 .1) (at-repeated .repeated .ensures) (c .if1 .taken)
 
 matched-requires : tie.Need-matched-requires
 matched-requires c κs =
@@ -30,8 +32,10 @@ same-length-2 c = search needs
 
 returns-2 : tie.Need-returns-2
 returns-2 c =
-    let p = c .before .before .before .before .before .before .before .before .before .pre in
-    pairs-found _ _ (p .0 .0) (p .0 .1) (p .1 .0) (p .1 .1) (c .before .before .before .before .repeated .ensures) (c .before .if1 .left) (c .matched .ensures)
+    let at-repeated = c .before .before .before .before in
+    let start = at-repeated .before .before .before .before .before in
+    let p = start .pre in
+    pairs-found _ _ (p .0 .0) (p .0 .1) (p .1 .0) (p .1 .1) (at-repeated .repeated .ensures) (c .before .if1 .left) (c .matched .ensures)
 
 pub weigh-pairs-spec : {M : Type 1} → statement M
 weigh-pairs-spec =

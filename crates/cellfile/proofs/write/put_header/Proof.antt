@@ -30,7 +30,8 @@ same-length c = search needs
 
 returns : tie.Need-returns
 returns c =
-    let a = c .before .before .before .before .before .args in
+    let start = c .before .before .before .before .before in
+    let a = start .args in
     c .before .before .put-number .ensures ∙ ap (λ v. onto (bytes 4 v) (a .out .now)) (header-number (a .kind) (a .n) (a .m))
 
 pub put-header-spec : {M : Type 1} → statement M

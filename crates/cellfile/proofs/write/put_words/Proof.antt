@@ -33,20 +33,28 @@ shared-slice-read-put-number : tie.Need-shared-slice-read-put-number Inv-loop μ
 shared-slice-read-put-number c = search needs
 
 sub-put-number : tie.Need-sub-put-number Inv-loop μ-loop
-sub-put-number c = omega (arith, room (c .before), c .before .before .loop .inv, c .before .before .before .before .before .pre)
+sub-put-number c =
+    let start = c .before .before .before .before .before in
+    omega (arith, room (c .before), c .before .before .loop .inv, start .pre)
 
 part-put-number-start : tie.Need-part-put-number-start Inv-loop μ-loop
-part-put-number-start c = omega (arith, room (c .before), c .before .before .loop .inv, c .before .before .before .before .before .pre)
+part-put-number-start c =
+    let start = c .before .before .before .before .before in
+    omega (arith, room (c .before), c .before .before .loop .inv, start .pre)
 
 part-put-number-end : tie.Need-part-put-number-end Inv-loop μ-loop
 part-put-number-end c = search needs
 
 put-number-requires : tie.Need-put-number-requires Inv-loop μ-loop
 put-number-requires c κs =
-    part-room (c .before .before .before .loop .out) (c .before .before .before .loop .at) (c .before .before .before .before .before .before .args .size) (omega (arith, room (c .before .before), c .before .before .before .loop .inv, c .before .before .before .before .before .before .pre))
+    let at-loop = c .before .before .before in
+    let start = at-loop .before .before .before in
+    part-room (at-loop .loop .out) (at-loop .loop .at) (start .args .size) (omega (arith, room (c .before .before), at-loop .loop .inv, start .pre))
 
 add-at : tie.Need-add-at Inv-loop μ-loop
-add-at c = omega (arith, room (c .before .before .before .before .before), c .before .before .before .before .before .before .before .before .before .pre)
+add-at c =
+    let start = c .before .before .before .before .before .before .before .before .before in
+    omega (arith, room (c .before .before .before .before .before), start .pre)
 
 add-i : tie.Need-add-i Inv-loop μ-loop
 add-i c = search needs
@@ -56,14 +64,16 @@ loop-less c = search needs
 
 loop-again : tie.Need-loop-again Inv-loop μ-loop
 loop-again c =
-    let l = c .before .before .before .before .before .before .loop in
-    let a = c .before .before .before .before .before .before .before .before .before .args in (
+    let at-loop = c .before .before .before .before .before .before in
+    let start = at-loop .before .before .before in
+    let l = at-loop .loop in
+    let a = start .args in (
       omega arith,
       words-at _ _ _ (l .inv .1),
       c .before .out .given .1 ∙ l .inv .2,
-      onto-next _ _ (a .out .now) (l .out) (l .at) (length-taken (a .size) (a .words .now) (l .i) (omega (arith, l .inv, c .before .before .before .before .before .before .before .before .before .pre)) ∙ sym (l .inv .1))
+      onto-next _ _ (a .out .now) (l .out) (l .at) (length-taken (a .size) (a .words .now) (l .i) (omega (arith, l .inv, start .pre)) ∙ sym (l .inv .1))
           (l .inv .3) (c .before .before .put-number .ensures)
-          ∙ ap (λ f. onto f (a .out .now)) (words-next _ (a .words .now) (l .i) (omega (arith, l .inv, c .before .before .before .before .before .before .before .before .before .pre))),
+          ∙ ap (λ f. onto f (a .out .now)) (words-next _ (a .words .now) (l .i) (omega (arith, l .inv, start .pre))),
     )
 
 same-length : tie.Need-same-length Inv-loop μ-loop

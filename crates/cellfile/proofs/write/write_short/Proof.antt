@@ -39,11 +39,14 @@ same-length c = search needs
 
 returns : tie.Need-returns
 returns c =
-    let a = c .before .before .before .before .before .before .before .before .before .before .before .before .before .before .args in
+    let at-put-number = c .before .before .before .before .before .before in
+    let at-put-header = at-put-number .before .before .before .before in
+    let start = at-put-header .before .before .before .before in
+    let a = start .args in
     onto-next _ _ (a .out .now) _ 12 (length-head _ _)
-    (onto-next _ _ (a .out .now) _ 4 (length-bytes 4 _) (c .before .before .before .before .before .before .before .before .before .before .put-header .ensures) (c .before .before .before .before .before .before .put-number .ensures))
+    (onto-next _ _ (a .out .now) _ 4 (length-bytes 4 _) (at-put-header .put-header .ensures) (at-put-number .put-number .ensures))
     (c .before .before .put-words .ensures)
-    ∙ ap (λ f. onto f (a .out .now)) (short-file (a .n) (a .m) (a .carried) (a .entries .now) (c .before .before .before .before .before .before .before .before .before .before .before .before .before .before .pre .words))
+    ∙ ap (λ f. onto f (a .out .now)) (short-file (a .n) (a .m) (a .carried) (a .entries .now) (start .pre .words))
 
 pub write-short-spec : {M : Type 1} → statement M
 write-short-spec =
