@@ -48,13 +48,21 @@ module _ (s : List ℕ) (m i : ℕ) (l : i < m) (e : Entry) (r : EntryRead (drop
       → stray n (from (storeList .entry) s 4 m i) ≡ stray n (from (storeList .entry) s 4 m (i + 1))
   stray-next n p = any-next (storeList .entry) s 4 m i l asEntry _ (rw (← r .a, ← r .b) p)
 
-  pub keys-not : (low : ℕ) → key (e .a) (e .b) < low → ascendingFrom low (keys (from (storeList .entry) s 4 m i)) ≡ false
+  pub keys-not : (low : ℕ) → key (e .a) (e .b) < low → ascendingFrom low
+      (keys (from (storeList .entry) s 4 m i)) ≡ false
   keys-not low p = rw (from-next (storeList .entry) s 4 m i l, ← r .a, ← r .b, lt-leb low (key (e .a) (e .b)) p)
 
   pub keys-next : (low : ℕ) → low ≤ key (e .a) (e .b) → ascendingFrom low (keys (from (storeList .entry) s 4 m i))
       ≡ ascendingFrom (key (e .a) (e .b) + 1) (keys (from (storeList .entry) s 4 m (i + 1)))
   keys-next low p =
-      rw (from-next (storeList .entry) s 4 m i l, ← r .a, ← r .b, le-leb low (key (e .a) (e .b)) p, add-one (key (e .a) (e .b)))
+      rw (
+        from-next (storeList .entry) s 4 m i l,
+        ← r .a,
+        ← r .b,
+        le-leb low (key (e .a) (e .b)) p,
+        add-one
+            (key (e .a) (e .b)),
+      )
 
 module _ (s : List ℕ) (h : Header) (r : HeaderRead s h) where
   pub kind-wrong : 4 ≤ length s → (h .kind ≡ 1 → ⊥) → true ≡ notAList storeList s
@@ -91,7 +99,8 @@ module _ (s : List ℕ) (h : Header) (r : HeaderRead s h) where
   unfolding strayEntry
   stray-is = rw (← r .n, ← r .m)
 
-  pub unordered-is : unordered storeList s ≡ not (ascendingFrom 0 (keys (readRecords (storeList .entry) (h .m) (drop 4 s))))
+  pub unordered-is : unordered storeList s ≡ not
+      (ascendingFrom 0 (keys (readRecords (storeList .entry) (h .m) (drop 4 s))))
   unfolding unordered
   unordered-is = rw (← r .m)
 

@@ -26,14 +26,23 @@ putDown (suc k) v out = putDown k (v / 256) (set out k (v % 256))
 
 pub set-drop : (out : List ℕ) (k x : ℕ) → k < length out → drop k (set out k x) ≡ x ∷ drop (suc k) out
 set-drop out k x h =
-    drop-cons (set out k x) k 0 (rw length-set h) ∙ rw (getD-set-same out k x 0 h, drop-set-lt (suc k) out k x (omega arith))
+    drop-cons (set out k x) k 0 (rw length-set h)
+    ∙ rw (getD-set-same out k x 0 h, drop-set-lt (suc k) out k x (omega arith))
 
 pub put-down : (k v : ℕ) (out : List ℕ) → k ≤ length out → putDown k v out ≡ onto (bytes k v) out
 unfolding bytes onto
 put-down zero v out h = refl
 put-down (suc k) v out h =
     put-down k (v / 256) (set out k (v % 256)) (rw length-set (omega arith))
-    ∙ rw (length-bytes k (v / 256), set-drop out k (v % 256) h, length-append, length-bytes k (v / 256), add-one k, append-assoc)
+    ∙ rw (
+      length-bytes k (v / 256),
+      set-drop out k (v % 256) h,
+      length-append,
+      length-bytes k
+          (v / 256),
+      add-one k,
+      append-assoc,
+    )
 
 pub down-next : (k v : ℕ) (out : List ℕ) → 0 < k → putDown k v out ≡ putDown (k - 1) (v / 256) (set out (k - 1) (v % 256))
 down-next k v out h =
@@ -44,7 +53,12 @@ down-next k v out h =
 
 pub part-room : (out : List ℕ) (at k : ℕ) → at + k ≤ length out → k ≤ length (take (length out - at) (drop at out))
 part-room out at k h =
-    omega (arith, length-drop at out, length-take-le (length out - at) (drop at out) (omega (arith, length-drop at out)))
+    omega (
+      arith,
+      length-drop at out,
+      length-take-le (length out - at) (drop at out)
+          (omega (arith, length-drop at out)),
+    )
 
 module _ (pre xs out₀ out : List ℕ) (at : ℕ) (len : length pre ≡ at) (e : out ≡ onto pre out₀) where
   room : at ≤ length out
@@ -135,5 +149,6 @@ pub short-file : (n m carried : ℕ) (words : List ℕ) → m ≤ length words
     ≡ writeFile shortList (fileOf shortList n (carried ∷ []) (take m words))
 short-file n m carried words h =
     append-assoc (bytes 4 (packed header (2 ∷ n ∷ m ∷ 0 ∷ []))) (bytes 8 carried) (wordBytes 8 (take m words))
-    ∙ ap (λ v. bytes 4 (packed header (2 ∷ n ∷ m ∷ 0 ∷ [])) ++ (bytes 8 v ++ wordBytes 8 (take m words))) (one-field carried)
+    ∙ ap (λ v. bytes 4 (packed header (2 ∷ n ∷ m ∷ 0 ∷ [])) ++ (bytes 8 v ++ wordBytes 8 (take m words)))
+    (one-field carried)
     ∙ sym (file-words shortList n m (carried ∷ []) words refl h)

@@ -126,7 +126,16 @@ module _ (s : List ℕ) (n m i : ℕ) (l : i < m) (p : PairEntry) (r : PairRead 
 
         pub pairs-next : low ≤ p .a → badPairs n low here ≡ badPairs n (p .a + 1) (from (pairing .entry) s 4 m (i + 1))
         pairs-next q =
-            rw (from-next (pairing .entry) s 4 m i l, ← r .a, ← r .b, ← r .zeros, good, le-leb low (p .a) q, add-one (p .a))
+            rw (
+              from-next (pairing .entry) s 4 m i l,
+              ← r .a,
+              ← r .b,
+              ← r .zeros,
+              good,
+              le-leb low (p .a) q,
+              add-one
+                  (p .a),
+            )
 
 -- ---- the answers
 

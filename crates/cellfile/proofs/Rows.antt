@@ -103,7 +103,8 @@ bad-pairing-none n s e =
     let b = or-none (any (badPair n) (readEntries pairing s)) _ (a .1) in (
       misheaded-none 4 3 n s (a .0) .3,
       all-values asPair _ (readEntries pairing s)
-          (all-map (λ (r : List ℕ). good r) (readEntries pairing s) (any-none (badPair n) (readEntries pairing s) (b .0))),
+          (all-map (λ (r : List ℕ). good r) (readEntries pairing s)
+          (any-none (badPair n) (readEntries pairing s) (b .0))),
       firsts (readEntries pairing s) ∙ not-false _ (b .1),
     )
   where

@@ -113,7 +113,8 @@ module _ (list pairing : List ℕ) {n : ℕ} (en : n ≡ cellsOf list) where
   pub pairing-refused : (k : ℕ) (values : List ℕ) → (k, []) ≡ answer (first (nine n)) (n ∷ countOf pairing ∷ [])
       → (k, []) ≡ answer (first (rows list pairing)) values
   pairing-refused k values e =
-      layer-refused (nine (cellsOf list)) (ten (entriesOf storeList list) (pairsOf pairing)) values k n (countOf pairing ∷ [])
+      layer-refused (nine (cellsOf list)) (ten (entriesOf storeList list) (pairsOf pairing)) values k n
+      (countOf pairing ∷ [])
       (e ∙ ap (λ i. answer (first (nine i)) (n ∷ countOf pairing ∷ [])) en)
 
   pub pairing-accepted : {i k : ℕ} → (0, i ∷ k ∷ []) ≡ answer (first (nine n)) (n ∷ countOf pairing ∷ [])
@@ -132,7 +133,8 @@ module _ (list pairing : List ℕ) {n : ℕ} (en : n ≡ cellsOf list) where
 -- ---- refusals 2 to 6, from the answer of the list's check
 
 module _ (list : List ℕ) where
-  pub list-accepted : {n m : ℕ} → (0, n ∷ m ∷ []) ≡ answer (first (listRows storeList list)) (cellsOf list ∷ countOf list ∷ [])
+  pub list-accepted : {n m : ℕ} → (0, n ∷ m ∷ []) ≡ answer (first (listRows storeList list))
+      (cellsOf list ∷ countOf list ∷ [])
       → (first (listRows storeList list) ≡ 0) × (n ≡ cellsOf list) × (m ≡ countOf list)
   list-accepted {n} {m} e =
       let a = answer-accepted (first (listRows storeList list)) (n ∷ m ∷ []) (cellsOf list ∷ countOf list ∷ []) e in

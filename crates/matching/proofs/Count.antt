@@ -1,6 +1,6 @@
 -- After a step that fits, fewer cells have pairs (`step-fewer`) and there are no more pairs (`step-no-more`). In
--- order: the pairs that putting, dropping and a leaf leave; pairs told apart by a cell; a row whose inner cells lose all
--- their pairs, for new pairs between its ends and one inner cell (ring and chain). Assumes nothing.
+-- order: the pairs that putting, dropping and a leaf leave; pairs told apart by a cell; a row whose inner cells lose
+-- all their pairs, for new pairs between its ends and one inner cell (ring and chain). Assumes nothing.
 use mathlib.Core.Path.{_≡_, refl, sym, ap₂, _∙_}
 use mathlib.Core.Logic.{_⊎_, inl, inr, _≢_}
 use mathlib.Core.Bool.{Bool, true, false, cond}

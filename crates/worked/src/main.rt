@@ -1,4 +1,5 @@
-// The worked lists that are compared by running the calls: those that concern sizes, each weighed with the empty pairing.
+// The worked lists that are compared by running the calls: those that concern sizes, each weighed with the empty
+// pairing.
 use cellfile::Weighed;
 ghost use mathlib.Core.Path.{_≡_};
 ghost use Prim.Native.Nat.{_+_, _*_, _≤_};

@@ -36,8 +36,12 @@ loop-less c = search needs
 
 loop-again : tie.Need-loop-again Inv-loop μ-loop
 loop-again c =
-    let l = c .before .before .loop in
-    (omega arith, number-next _ _ (l .inv .1) (c .byte-at .ensures .0), below-next _ _ _ (l .inv .2) (c .byte-at .ensures .1))
+    let l = c .before .before .loop in (
+      omega arith,
+      number-next _ _ (l .inv .1) (c .byte-at .ensures .0),
+      below-next _ _ _ (l .inv .2)
+          (c .byte-at .ensures .1),
+    )
 
 returns : tie.Need-returns Inv-loop μ-loop
 returns c =

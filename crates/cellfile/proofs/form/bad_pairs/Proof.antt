@@ -34,8 +34,12 @@ here : (g : tie.After-pair-at Inv-loop μ-loop) → PairRead (drop (at g) (bytes
 here g = part (λ s. PairRead s (g .pair-at .result)) (bytes g) (at g) (g .pair-at .ensures)
 
 loop-holds : tie.Need-loop-holds Inv-loop μ-loop
-loop-holds c =
-    (omega arith, omega arith, ap (badPairs (c .before .args .n) 0) (from-start (pairing .entry) (c .before .args .pairing .now) 4 (c .before .args .m)))
+loop-holds c = (
+  omega arith,
+  omega arith,
+  ap (badPairs (c .before .args .n) 0)
+      (from-start (pairing .entry) (c .before .args .pairing .now) 4 (c .before .args .m)),
+)
 
 mul-at : tie.Need-mul-at Inv-loop μ-loop
 mul-at c = search needs
@@ -58,20 +62,23 @@ pair-at-requires c κs = search needs
 returns : tie.Need-returns Inv-loop μ-loop
 returns c =
     let g = c .before .before in
-    sym (g .before .before .before .loop .inv .2 ∙ pairs-high _ _ _ _ (g .before .before .loop-test .taken) _ (here g) _ (c .if1 .taken))
+    sym (g .before .before .before .loop .inv .2
+    ∙ pairs-high _ _ _ _ (g .before .before .loop-test .taken) _ (here g) _ (c .if1 .taken))
 
 returns-2 : tie.Need-returns-2 Inv-loop μ-loop
 returns-2 c =
     let g = c .before .before .before .before in
     sym (g .before .before .before .loop .inv .2
-    ∙ pairs-turned _ _ _ _ (g .before .before .loop-test .taken) _ (here g) _ (c .before .before .if1 .left) (c .if2 .taken))
+    ∙ pairs-turned _ _ _ _ (g .before .before .loop-test .taken) _ (here g) _ (c .before .before .if1 .left)
+    (c .if2 .taken))
 
 returns-3 : tie.Need-returns-3 Inv-loop μ-loop
 returns-3 c =
     let at-if1 = c .before .before .before .before in
     let g = c .before .before .before .before .before .before in
     sym (g .before .before .before .loop .inv .2
-    ∙ pairs-zeros _ _ _ _ (g .before .before .loop-test .taken) _ (here g) _ (at-if1 .if1 .left) (c .before .before .if2 .left) (c .if3 .taken))
+    ∙ pairs-zeros _ _ _ _ (g .before .before .loop-test .taken) _ (here g) _ (at-if1 .if1 .left)
+    (c .before .before .if2 .left) (c .if3 .taken))
 
 returns-4 : tie.Need-returns-4 Inv-loop μ-loop
 returns-4 c =
@@ -79,7 +86,8 @@ returns-4 c =
     let at-if1 = at-if2 .before .before in
     let g = c .before .before .before .before .before .before .before in
     sym (g .before .before .before .loop .inv .2
-    ∙ pairs-low _ _ _ _ (g .before .before .loop-test .taken) _ (here g) _ (at-if1 .if1 .left) (at-if2 .if2 .left) (c .before .if3 .left) (c .if4 .taken))
+    ∙ pairs-low _ _ _ _ (g .before .before .loop-test .taken) _ (here g) _ (at-if1 .if1 .left) (at-if2 .if2 .left)
+    (c .before .if3 .left) (c .if4 .taken))
 
 add-low : tie.Need-add-low Inv-loop μ-loop
 add-low c = search needs
@@ -98,7 +106,8 @@ loop-again c =
       omega arith,
       omega (arith, g .pair-at .ensures .a-fits),
       g .before .before .before .loop .inv .2
-          ∙ pairs-next _ _ _ _ (g .before .before .loop-test .taken) _ (here g) _ (at-if1 .if1 .left) (at-if2 .if2 .left) (c .before .if3 .left) (c .if4 .left),
+          ∙ pairs-next _ _ _ _ (g .before .before .loop-test .taken) _ (here g) _ (at-if1 .if1 .left)
+          (at-if2 .if2 .left) (c .before .if3 .left) (c .if4 .left),
     )
 
 returns-5 : tie.Need-returns-5 Inv-loop μ-loop

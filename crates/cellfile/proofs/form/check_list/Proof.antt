@@ -44,7 +44,8 @@ add-if3 c = search needs
 returns-3 : tie.Need-returns-3
 returns-3 c =
     let g = c .before in
-    row-4 _ _ (not-2 (g .before .before .before)) (not-3 (g .before)) (length-wrong _ _ (g .header-at .ensures) (c .if3 .taken))
+    row-4 _ _ (not-2 (g .before .before .before)) (not-3 (g .before))
+    (length-wrong _ _ (g .header-at .ensures) (c .if3 .taken))
 
 not-4 : (g : tie.Else3) → wrongLength storeList (g .before .before .before .before .before .before .before .args .list .now) ≡ false
 not-4 g = length-right _ _ (g .before .header-at .ensures) (g .if3 .left)

@@ -25,12 +25,15 @@ bad-pairs-requires c κs =
 
 returns-2 : tie.Need-returns-2
 returns-2 c =
-    row-holds 8 _ (pairing-rest _ _ _ (c .before .before .header-at .ensures) (headed (c .before .before .before)) ∙ sym (c .before .bad-pairs .ensures) ∙ c .if2 .taken)
+    row-holds 8 _
+    (pairing-rest _ _ _ (c .before .before .header-at .ensures) (headed (c .before .before .before))
+    ∙ sym (c .before .bad-pairs .ensures) ∙ c .if2 .taken)
 
 returns-3 : tie.Need-returns-3
 returns-3 c =
     row-fails 9 _ _ _ (c .before .before .header-at .ensures)
-    (pairing-rest _ _ _ (c .before .before .header-at .ensures) (headed (c .before .before .before)) ∙ sym (c .before .bad-pairs .ensures) ∙ c .if2 .left)
+    (pairing-rest _ _ _ (c .before .before .header-at .ensures) (headed (c .before .before .before))
+    ∙ sym (c .before .bad-pairs .ensures) ∙ c .if2 .left)
 
 pub check-pairing-spec : {M : Type 1} → statement M
 check-pairing-spec =

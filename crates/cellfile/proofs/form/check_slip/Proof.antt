@@ -25,12 +25,15 @@ no-rule-requires c κs =
 
 returns-2 : tie.Need-returns-2
 returns-2 c =
-    row-holds 6 _ (slip-rest _ _ _ (c .before .before .header-at .ensures) (headed (c .before .before .before)) ∙ sym (c .before .no-rule .ensures) ∙ c .if2 .taken)
+    row-holds 6 _
+    (slip-rest _ _ _ (c .before .before .header-at .ensures) (headed (c .before .before .before))
+    ∙ sym (c .before .no-rule .ensures) ∙ c .if2 .taken)
 
 returns-3 : tie.Need-returns-3
 returns-3 c =
     row-fails 7 _ _ _ (c .before .before .header-at .ensures)
-    (slip-rest _ _ _ (c .before .before .header-at .ensures) (headed (c .before .before .before)) ∙ sym (c .before .no-rule .ensures) ∙ c .if2 .left)
+    (slip-rest _ _ _ (c .before .before .header-at .ensures) (headed (c .before .before .before))
+    ∙ sym (c .before .no-rule .ensures) ∙ c .if2 .left)
 
 pub check-slip-spec : {M : Type 1} → statement M
 check-slip-spec =

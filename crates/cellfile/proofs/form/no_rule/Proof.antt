@@ -1,4 +1,5 @@
--- `no_rule` finds a step whose rule refusal 7 names. Invariant: some step has one just where some from place i on has one.
+-- `no_rule` finds a step whose rule refusal 7 names. Invariant: some step has one just where some from place i on has
+-- one.
 use Prim.Native.Nat.{ℕ, _+_, _*_, _-_, _≤_}
 use mathlib.Core.Path.{_≡_, sym, _∙_, ap}
 use mathlib.Core.List.{List}
@@ -54,13 +55,15 @@ step-at-requires c κs = search needs
 returns : tie.Need-returns Inv-loop μ-loop
 returns c =
     let g = c .before .before in
-    sym (g .before .before .before .loop .inv .1 ∙ rules-here _ _ _ (g .before .before .loop-test .taken) _ (here g) (rule-zero _ (c .if1 .taken)))
+    sym (g .before .before .before .loop .inv .1
+    ∙ rules-here _ _ _ (g .before .before .loop-test .taken) _ (here g) (rule-zero _ (c .if1 .taken)))
 
 returns-2 : tie.Need-returns-2 Inv-loop μ-loop
 returns-2 c =
     let g = c .before .before .before .before in
     sym (g .before .before .before .loop .inv .1
-    ∙ rules-here _ _ _ (g .before .before .loop-test .taken) _ (here g) (rule-high _ (c .before .before .if1 .left) (c .if2 .taken)))
+    ∙ rules-here _ _ _ (g .before .before .loop-test .taken) _ (here g)
+    (rule-high _ (c .before .before .if1 .left) (c .if2 .taken)))
 
 add-i : tie.Need-add-i Inv-loop μ-loop
 add-i c = search needs
@@ -73,14 +76,16 @@ loop-again c =
     let g = c .before .before .before .before in (
       omega arith,
       g .before .before .before .loop .inv .1
-          ∙ rules-next _ _ _ (g .before .before .loop-test .taken) _ (here g) (rule-known _ (c .before .before .if1 .left) (c .if2 .left)),
+          ∙ rules-next _ _ _ (g .before .before .loop-test .taken) _ (here g)
+          (rule-known _ (c .before .before .if1 .left) (c .if2 .left)),
     )
 
 returns-3 : tie.Need-returns-3 Inv-loop μ-loop
 returns-3 c =
     let start = c .before .before .before in
     let a = start .args in
-    sym (c .before .loop .inv .1 ∙ ap ruleless (from-end (slip .entry) (a .slip .now) 4 (a .m) (c .before .loop .i) (c .loop-test .left)))
+    sym (c .before .loop .inv .1
+    ∙ ap ruleless (from-end (slip .entry) (a .slip .now) 4 (a .m) (c .before .loop .i) (c .loop-test .left)))
 
 pub no-rule-spec : {M : Type 1} → statement M
 no-rule-spec =

@@ -1,4 +1,5 @@
--- `stray_entry` finds an entry that refusal 5 names. Invariant: some entry is one just where some from place i on is one.
+-- `stray_entry` finds an entry that refusal 5 names. Invariant: some entry is one just where some from place i on is
+-- one.
 use Prim.Native.Nat.{ℕ, _+_, _*_, _-_, _≤_}
 use mathlib.Core.Path.{_≡_, sym, _∙_, ap}
 use mathlib.Core.List.{List}
@@ -56,7 +57,8 @@ returns : tie.Need-returns Inv-loop μ-loop
 returns c =
     let g = c .before .before in
     let l = g .before .before .before .loop in
-    sym (l .inv .1 ∙ stray-here _ _ _ (g .before .before .loop-test .taken) _ (here g) _ (stray-high _ _ _ (c .if1 .taken)))
+    sym (l .inv .1
+    ∙ stray-here _ _ _ (g .before .before .loop-test .taken) _ (here g) _ (stray-high _ _ _ (c .if1 .taken)))
 
 returns-2 : tie.Need-returns-2 Inv-loop μ-loop
 returns-2 c =
@@ -85,7 +87,8 @@ returns-3 c =
     let start = c .before .before .before in
     let l = c .before .loop in
     let a = start .args in
-    sym (l .inv .1 ∙ ap (stray (a .n)) (from-end (storeList .entry) (a .list .now) 4 (a .m) (l .i) (c .loop-test .left)))
+    sym (l .inv .1
+    ∙ ap (stray (a .n)) (from-end (storeList .entry) (a .list .now) 4 (a .m) (l .i) (c .loop-test .left)))
 
 pub stray-entry-spec : {M : Type 1} → statement M
 stray-entry-spec =

@@ -1,4 +1,5 @@
--- `unordered` is the condition of refusal 6. Invariant: the keys ascend just where those from place i on ascend from low.
+-- `unordered` is the condition of refusal 6. Invariant: the keys ascend just where those from place i on ascend from
+-- low.
 use Prim.Native.Nat.{ℕ, _+_, _*_, _-_, _≤_}
 use mathlib.Core.Path.{_≡_, sym, _∙_, ap}
 use mathlib.Core.Bool.{not}
@@ -19,7 +20,8 @@ use Rattle.cellfile.proofs.form.unordered.Tie as tie
 abbrev Inv-loop : tie.InvT-loop
 Inv-loop list m low₀ i₀ low i =
     (i ≤ m) × (low ≤ 1048576)
-    × (ascendingFrom 0 (keys (readRecords (storeList .entry) m (drop 4 list))) ≡ ascendingFrom low (keys (from (storeList .entry) list 4 m i)))
+    × (ascendingFrom 0 (keys (readRecords (storeList .entry) m (drop 4 list))) ≡ ascendingFrom low
+    (keys (from (storeList .entry) list 4 m i)))
 
 abbrev μ-loop : tie.MeasureT-loop
 μ-loop list m low₀ i₀ low i = m - i
@@ -38,7 +40,8 @@ loop-holds : tie.Need-loop-holds Inv-loop μ-loop
 loop-holds c = (
   omega arith,
   omega arith,
-  ap (λ rs. ascendingFrom 0 (keys rs)) (from-start (storeList .entry) (c .before .args .list .now) 4 (c .before .args .m)),
+  ap (λ rs. ascendingFrom 0 (keys rs))
+      (from-start (storeList .entry) (c .before .args .list .now) 4 (c .before .args .m)),
 )
 
 mul-at : tie.Need-mul-at Inv-loop μ-loop
@@ -94,7 +97,10 @@ returns-2 c =
     let start = c .before .before .before in
     let l = c .before .loop in
     let a = start .args in
-    sym (ap not (l .inv .2 ∙ ap (λ rs. ascendingFrom (l .low) (keys rs)) (from-end (storeList .entry) (a .list .now) 4 (a .m) (l .i) (c .loop-test .left))))
+    sym (ap not
+    (l .inv .2
+    ∙ ap (λ rs. ascendingFrom (l .low) (keys rs))
+    (from-end (storeList .entry) (a .list .now) 4 (a .m) (l .i) (c .loop-test .left))))
 
 pub unordered-spec : {M : Type 1} → statement M
 unordered-spec =

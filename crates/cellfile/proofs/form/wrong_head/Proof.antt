@@ -20,14 +20,16 @@ returns-3 : tie.Need-returns-3
 returns-3 c =
     let at-header-at = c .before .before .before .before in
     let at-if1 = at-header-at .before in
-    head-cells _ _ _ _ _ (at-header-at .header-at .ensures) (at-if1 .if1 .left) (c .before .before .if2 .left) (c .if3 .taken)
+    head-cells _ _ _ _ _ (at-header-at .header-at .ensures) (at-if1 .if1 .left) (c .before .before .if2 .left)
+    (c .if3 .taken)
 
 returns-4 : tie.Need-returns-4
 returns-4 c =
     let at-if2 = c .before .before .before .before in
     let at-header-at = at-if2 .before .before in
     let at-if1 = at-header-at .before in
-    head-zeros _ _ _ _ _ (at-header-at .header-at .ensures) (at-if1 .if1 .left) (at-if2 .if2 .left) (c .before .before .if3 .left) (c .if4 .taken)
+    head-zeros _ _ _ _ _ (at-header-at .header-at .ensures) (at-if1 .if1 .left) (at-if2 .if2 .left)
+    (c .before .before .if3 .left) (c .if4 .taken)
 
 mul-result : tie.Need-mul-result
 mul-result c =
@@ -47,7 +49,8 @@ returns-5 c =
     let at-if2 = at-if3 .before .before in
     let at-header-at = at-if2 .before .before in
     let at-if1 = at-header-at .before in
-    head-length _ _ _ _ _ (at-header-at .header-at .ensures) (at-if1 .if1 .left) (at-if2 .if2 .left) (at-if3 .if3 .left) (c .before .if4 .left)
+    head-length _ _ _ _ _ (at-header-at .header-at .ensures) (at-if1 .if1 .left) (at-if2 .if2 .left)
+    (at-if3 .if3 .left) (c .before .if4 .left)
 
 pub wrong-head-spec : {M : Type 1} → statement M
 wrong-head-spec =

@@ -32,7 +32,8 @@ other g = g .before .before .before .before .before .before .before .before .bef
 entry : (g : tie.After-pair-at Inv-loop μ-loop) → EntryRead (drop (4 + 5 * g .before .before .before .before .before .before .loop .i) (list g)) (g .before .before .entry-at .result)
 entry g =
     let at-loop = g .before .before .before .before .before .before in
-    part (λ s. EntryRead s (g .before .before .entry-at .result)) (list g) (4 + 5 * at-loop .loop .i) (g .before .before .entry-at .ensures)
+    part (λ s. EntryRead s (g .before .before .entry-at .result)) (list g) (4 + 5 * at-loop .loop .i)
+    (g .before .before .entry-at .ensures)
 
 pair : (g : tie.After-pair-at Inv-loop μ-loop) → PairRead (drop (4 + 3 * g .before .before .before .before .before .before .loop .j) (other g)) (g .pair-at .result)
 pair g =
@@ -101,7 +102,9 @@ returns-2 : tie.Need-returns-2 Inv-loop μ-loop
 returns-2 c =
     let g = c .before .before .before .before .before in
     let l = g .before .before .before .before .before .before .loop in
-    sym (l .inv .3 ∙ merged-above _ _ _ _ (l .i) (l .j) (l .points) (g .before .before .before .before .before .loop-test .taken) (g .before .before .before .before .if1 .left)
+    sym (l .inv .3
+    ∙ merged-above _ _ _ _ (l .i) (l .j) (l .points) (g .before .before .before .before .before .loop-test .taken)
+    (g .before .before .before .before .if1 .left)
     _ (entry g) _ (pair g) (c .if2 .taken))
 
 add-i : tie.Need-add-i Inv-loop μ-loop
@@ -128,7 +131,8 @@ loop-again c =
       omega arith,
       omega (arith, l .inv, g .before .before .entry-at .ensures .points-fit),
       l .inv .3
-          ∙ merged-same _ _ _ _ (l .i) (l .j) (l .points) (g .before .before .before .before .before .loop-test .taken) (g .before .before .before .before .if1 .left)
+          ∙ merged-same _ _ _ _ (l .i) (l .j) (l .points)
+          (g .before .before .before .before .before .loop-test .taken) (g .before .before .before .before .if1 .left)
           _ (entry g) _ (pair g) (c .before .before .if2 .left) (c .before .if3 .taken),
     )
 
@@ -143,7 +147,8 @@ loop-again-2 c =
       omega arith,
       omega arith,
       l .inv .3
-          ∙ merged-below _ _ _ _ (l .i) (l .j) (l .points) (g .before .before .before .before .before .loop-test .taken) (g .before .before .before .before .if1 .left)
+          ∙ merged-below _ _ _ _ (l .i) (l .j) (l .points)
+          (g .before .before .before .before .before .loop-test .taken) (g .before .before .before .before .if1 .left)
           _ (entry g) _ (pair g) (c .before .if2 .left) (c .if3 .left),
     )
 

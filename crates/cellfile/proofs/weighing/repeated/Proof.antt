@@ -1,5 +1,5 @@
--- `repeated` finds a cell that stands twice. Invariant: some cell of the pairing stands twice just where, among the pairs
--- from place i on, a cell is met that has a mark or stands twice.
+-- `repeated` finds a cell that stands twice. Invariant: some cell of the pairing stands twice just where, among the
+-- pairs from place i on, a cell is met that has a mark or stands twice.
 use Prim.Native.Nat.{ℕ, _+_, _*_, _-_, _≤_}
 use mathlib.Core.Path.{_≡_, refl, sym, _∙_}
 use mathlib.Core.Bool.{not}
@@ -77,7 +77,9 @@ same-length c = search needs
 returns : tie.Need-returns Inv-loop μ-loop
 returns c =
     let g = c .before .before in
-    sym (g .before .before .before .loop .inv .3 ∙ twice-a _ _ (g .before .before .before .loop .marks) (g .before .before .before .loop .i) (g .before .before .loop-test .taken) _ (here g) (c .if1 .taken))
+    sym (g .before .before .before .loop .inv .3
+    ∙ twice-a _ _ (g .before .before .before .loop .marks) (g .before .before .before .loop .i)
+    (g .before .before .loop-test .taken) _ (here g) (c .if1 .taken))
 
 mul-marks : tie.Need-mul-marks Inv-loop μ-loop
 mul-marks c = search needs
@@ -99,13 +101,15 @@ same-length-2 c =
     let at-pair-at = c .before .before .before .before in
     let at-loop = at-pair-at .before .before .before in
     let at-clear = at-loop .before .before .before in
-    length-set (at-loop .loop .marks) (at-pair-at .pair-at .result .a) 1 ∙ at-loop .loop .inv .1 ∙ at-clear .clear .kept .0
+    length-set (at-loop .loop .marks) (at-pair-at .pair-at .result .a) 1
+    ∙ at-loop .loop .inv .1 ∙ at-clear .clear .kept .0
 
 returns-2 : tie.Need-returns-2 Inv-loop μ-loop
 returns-2 c =
     let g = c .before .before .before .before in
     sym (g .before .before .before .loop .inv .3
-    ∙ twice-b _ _ (g .before .before .before .loop .marks) (g .before .before .before .loop .i) (g .before .before .loop-test .taken) _ (here g) (c .before .before .if1 .left) (c .if2 .taken))
+    ∙ twice-b _ _ (g .before .before .before .loop .marks) (g .before .before .before .loop .i)
+    (g .before .before .loop-test .taken) _ (here g) (c .before .before .if1 .left) (c .if2 .taken))
 
 mul-marks-2 : tie.Need-mul-marks-2 Inv-loop μ-loop
 mul-marks-2 c = search needs
@@ -129,7 +133,8 @@ loop-again c =
       simp length-set (g .before .before .before .loop .inv .1),
       simp length-set (g .before .before .before .loop .inv .2),
       g .before .before .before .loop .inv .3
-          ∙ twice-next _ _ (g .before .before .before .loop .marks) (g .before .before .before .loop .i) (g .before .before .loop-test .taken) _ (here g) (c .before .before .if1 .left) (c .if2 .left),
+          ∙ twice-next _ _ (g .before .before .before .loop .marks) (g .before .before .before .loop .i)
+          (g .before .before .loop-test .taken) _ (here g) (c .before .before .if1 .left) (c .if2 .left),
     )
 
 same-length-3 : tie.Need-same-length-3 Inv-loop μ-loop

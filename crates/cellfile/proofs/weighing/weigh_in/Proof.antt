@@ -47,7 +47,8 @@ returns-4 c =
     let at-if2 = at-check-list .before in
     let at-if1 = at-if2 .before in
     let a = list-accepted _ (ap checked (sym (at-n .n .given .1)) ∙ at-check-list .check-list .ensures) in
-    enough-words _ _ _ _ (at-if1 .if1 .left) (at-if2 .if2 .left) (list-passed _ _ _ (a .0) (c .before .before .weigh-list .ensures))
+    enough-words _ _ _ _ (at-if1 .if1 .left) (at-if2 .if2 .left)
+    (list-passed _ _ _ (a .0) (c .before .before .weigh-list .ensures))
 
 pub weigh-in-spec : {M : Type 1} → statement M
 weigh-in-spec =

@@ -20,14 +20,16 @@ weigh-pairs-requires c κs =
     let at-check-pairing = c .before .before .before .before in
     let start = at-check-pairing .before .before .before .before in
     let p = start .pre in
-    let a = pairing-accepted _ _ (p .1) (ap checked (sym (c .before .before .k .given .1)) ∙ at-check-pairing .check-pairing .ensures) in
+    let a = pairing-accepted _ _ (p .1)
+    (ap checked (sym (c .before .before .k .given .1)) ∙ at-check-pairing .check-pairing .ensures) in
     ((p .0, a .0), (p .2, a .1, p .3))
 
 returns : tie.Need-returns
 returns c =
     let at-check-pairing = c .before .before .before in
     let start = at-check-pairing .before .before .before .before in
-    pairing-refused _ _ (start .pre .1) _ _ (ap checked (sym (c .before .r .given .1)) ∙ at-check-pairing .check-pairing .ensures)
+    pairing-refused _ _ (start .pre .1) _ _
+    (ap checked (sym (c .before .r .given .1)) ∙ at-check-pairing .check-pairing .ensures)
 
 same-length : tie.Need-same-length
 same-length c = search needs
@@ -38,7 +40,8 @@ returns-2 c =
     let at-check-pairing = at-k .before .before in
     let start = at-check-pairing .before .before .before .before in
     let p = start .pre in
-    let a = pairing-accepted _ _ (p .1) (ap checked (sym (at-k .k .given .1)) ∙ at-check-pairing .check-pairing .ensures) in
+    let a = pairing-accepted _ _ (p .1)
+    (ap checked (sym (at-k .k .given .1)) ∙ at-check-pairing .check-pairing .ensures) in
     pairing-passed _ _ (p .1) _ (a .0) (c .before .before .weigh-pairs .ensures)
 
 pub weigh-list-spec : {M : Type 1} → statement M

@@ -35,7 +35,8 @@ returns-2 c =
     let at-repeated = c .before .before .before .before in
     let start = at-repeated .before .before .before .before .before in
     let p = start .pre in
-    pairs-found _ _ (p .0 .0) (p .0 .1) (p .1 .0) (p .1 .1) (at-repeated .repeated .ensures) (c .before .if1 .left) (c .matched .ensures)
+    pairs-found _ _ (p .0 .0) (p .0 .1) (p .1 .0) (p .1 .1) (at-repeated .repeated .ensures) (c .before .if1 .left)
+    (c .matched .ensures)
 
 pub weigh-pairs-spec : {M : Type 1} → statement M
 weigh-pairs-spec =

@@ -32,7 +32,8 @@ returns : tie.Need-returns
 returns c =
     let start = c .before .before .before .before .before in
     let a = start .args in
-    c .before .before .put-number .ensures ∙ ap (λ v. onto (bytes 4 v) (a .out .now)) (header-number (a .kind) (a .n) (a .m))
+    c .before .before .put-number .ensures
+    ∙ ap (λ v. onto (bytes 4 v) (a .out .now)) (header-number (a .kind) (a .n) (a .m))
 
 pub put-header-spec : {M : Type 1} → statement M
 put-header-spec =

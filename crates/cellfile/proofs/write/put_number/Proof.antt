@@ -1,5 +1,5 @@
--- `put_number` writes from the last byte on. Invariant: the whole writing is what is left to write, with what is left of
--- the number.
+-- `put_number` writes from the last byte on. Invariant: the whole writing is what is left to write, with what is left
+-- of the number.
 use Prim.Native.Nat.{_≤_}
 use mathlib.Core.Path.{_≡_, refl, sym, ap, _∙_}
 use lib.ListN.{length, length-set}
@@ -44,7 +44,8 @@ returns c =
     let l = c .before .loop in
     let a = c .before .before .args in
     let e : l .left ≡ 0 = omega arith in
-    ap (λ k. putDown k (l .rest) (l .out)) (sym e) ∙ sym (l .inv .2) ∙ put-down (a .size) (a .v) (a .out .now) (c .before .before .pre)
+    ap (λ k. putDown k (l .rest) (l .out)) (sym e)
+    ∙ sym (l .inv .2) ∙ put-down (a .size) (a .v) (a .out .now) (c .before .before .pre)
 
 pub put-number-spec : {M : Type 1} → statement M
 put-number-spec =

@@ -49,7 +49,8 @@ put-number-requires : tie.Need-put-number-requires Inv-loop μ-loop
 put-number-requires c κs =
     let at-loop = c .before .before .before in
     let start = at-loop .before .before .before in
-    part-room (at-loop .loop .out) (at-loop .loop .at) (start .args .size) (omega (arith, room (c .before .before), at-loop .loop .inv, start .pre))
+    part-room (at-loop .loop .out) (at-loop .loop .at) (start .args .size)
+    (omega (arith, room (c .before .before), at-loop .loop .inv, start .pre))
 
 add-at : tie.Need-add-at Inv-loop μ-loop
 add-at c =
@@ -71,7 +72,8 @@ loop-again c =
       omega arith,
       words-at _ _ _ (l .inv .1),
       c .before .out .given .1 ∙ l .inv .2,
-      onto-next _ _ (a .out .now) (l .out) (l .at) (length-taken (a .size) (a .words .now) (l .i) (omega (arith, l .inv, start .pre)) ∙ sym (l .inv .1))
+      onto-next _ _ (a .out .now) (l .out) (l .at)
+          (length-taken (a .size) (a .words .now) (l .i) (omega (arith, l .inv, start .pre)) ∙ sym (l .inv .1))
           (l .inv .3) (c .before .before .put-number .ensures)
           ∙ ap (λ f. onto f (a .out .now)) (words-next _ (a .words .now) (l .i) (omega (arith, l .inv, start .pre))),
     )

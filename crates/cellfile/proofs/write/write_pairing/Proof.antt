@@ -30,7 +30,8 @@ returns c =
     let at-put-header = c .before .before .before .before .before .before in
     let start = at-put-header .before .before .before .before in
     let a = start .args in
-    onto-next _ _ (a .out .now) _ 4 (length-bytes 4 _) (at-put-header .put-header .ensures) (c .before .before .put-words .ensures)
+    onto-next _ _ (a .out .now) _ 4 (length-bytes 4 _) (at-put-header .put-header .ensures)
+    (c .before .before .put-words .ensures)
     ∙ ap (λ f. onto f (a .out .now)) (plain-file pairing (a .n) (a .m) (a .pairs .now) refl refl (start .pre .words))
 
 pub write-pairing-spec : {M : Type 1} → statement M

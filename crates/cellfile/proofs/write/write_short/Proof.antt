@@ -44,7 +44,8 @@ returns c =
     let start = at-put-header .before .before .before .before in
     let a = start .args in
     onto-next _ _ (a .out .now) _ 12 (length-head _ _)
-    (onto-next _ _ (a .out .now) _ 4 (length-bytes 4 _) (at-put-header .put-header .ensures) (at-put-number .put-number .ensures))
+    (onto-next _ _ (a .out .now) _ 4 (length-bytes 4 _) (at-put-header .put-header .ensures)
+    (at-put-number .put-number .ensures))
     (c .before .before .put-words .ensures)
     ∙ ap (λ f. onto f (a .out .now)) (short-file (a .n) (a .m) (a .carried) (a .entries .now) (start .pre .words))
 
