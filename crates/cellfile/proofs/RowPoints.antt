@@ -1,5 +1,5 @@
--- The points of a row, by the points of its pairs, are H. In order: the words of a row and its pairs' points (`along`);
--- a path (`heavy-path`); a row whose first or last pair may not be taken; chains and rings.
+-- The points of a path, by the points of its pairs, are H. In order: the words of a row and its pairs' points
+-- (`along`); a path without and with its first pair (`two-path`); the loop over the words.
 use Prim.Native.Nat.{ℕ, suc, _+_, _-_, _<_, _≤_, max}
 use mathlib.Core.Path.{_≡_, refl, sym, ap, ap₂, _∙_}
 use mathlib.Core.Logic.{_⊎_, inl, inr, _≢_}

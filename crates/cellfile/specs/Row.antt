@@ -32,7 +32,7 @@ pub record RowOf (w : Points) (u : ℕ) (inner : List ℕ) (v : ℕ) (ws : List 
   pub fits : Each (λ a b. w a b < 17592186044416) (walk u inner v)
 
 -- The points of a heaviest pairing of a path by the points of its pairs, and of the path without its first pair.
--- Law: proofs/RowPoints, `heavy-path`.
+-- Law: proofs/RowPoints, `two-path`.
 unfoldable pub two : List ℕ → ℕ × ℕ
 two [] = (0, 0)
 two (p ∷ ps) = (max (two ps .0) (p + two ps .1), two ps .0)
