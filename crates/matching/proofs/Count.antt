@@ -158,7 +158,7 @@ other-cell {inner = inner} s z = go inner (s .apart) (s .more)
         pick (fail n) = (c, mem-head c c (x ∷ xs) refl, n)
 
 -- the cells of a walk have pairs
-walk-live : {n : ℕ} {w : Points} → Graph n w → (u : ℕ) (cs : List ℕ) (v : ℕ) → Each (λ a b. 0 < w a b) (walk u cs v)
+pub walk-live : {n : ℕ} {w : Points} → Graph n w → (u : ℕ) (cs : List ℕ) (v : ℕ) → Each (λ a b. 0 < w a b) (walk u cs v)
     → Live w u × Live w v × ((c : ℕ) → mem c cs ≡ true → Live w c)
 walk-live g u [] v p = ((v, p .0), (u, omega (arith, g .turned u v)), λ c m. no-mem c m)
 walk-live {w = w} g u (x ∷ xs) v p =
@@ -176,7 +176,7 @@ in-each P (e ∷ es) p a b h = go (in-cases (e .0) (e .1) es a b h) (in-each P e
     go (inr j) i = i j
 
 -- The pairs between the ends and z.
-new : ℕ → ℕ → ℕ → List Pair
+pub new : ℕ → ℕ → ℕ → List Pair
 new u v z = (u, z) ∷ (v, z) ∷ (u, v) ∷ []
 
 -- The inner cells lose their pairs, and there are new ones only between the ends and z.
@@ -201,7 +201,7 @@ module _ {n : ℕ} {w : Points} (g : Graph n w) {u v : ℕ} {inner : List ℕ} (
       at a b (fail h) i = omega (arith, lost .most a b)
 
   -- what the ends, z and the cells outside have, all cells with pairs have
-  after-cell : (P : ℕ → Type 0) → P u → P v → P z → ((a b : ℕ) → mem a inner ≡ false → 0 < w a b → P a)
+  pub after-cell : (P : ℕ → Type 0) → P u → P v → P z → ((a b : ℕ) → mem a inner ≡ false → 0 < w a b → P a)
       → (a b : ℕ) → 0 < w′ a b → P a
   unfolding new
   after-cell P pu pv pz p a b h = go (ltT 0 (dropped inner w a b)) (after a b)
@@ -223,7 +223,7 @@ module _ {n : ℕ} {w : Points} (g : Graph n w) {u v : ℕ} {inner : List ℕ} (
       (λ e. mem-apart (c .0) v inner (c .1) (s .last-off) (sym e)) (λ e. c .2 (sym e))
       (λ a b o h e. mem-apart (c .0) a inner (c .1) o (sym e)) (c .0) x h refl)
 
-ring-after : (w : Points) (u z : ℕ) (inner : List ℕ) (a b : ℕ)
+pub ring-after : (w : Points) (u z : ℕ) (inner : List ℕ) (a b : ℕ)
     → there (ringed w u z inner) a b ≤ times (new u u z) a b + there (dropped inner w) a b
 unfolding ringed new
 ring-after w u z inner a b = put-one _
@@ -231,7 +231,7 @@ ring-after w u z inner a b = put-one _
     put-one : (k : ℕ) → there (put u z k (dropped inner w)) a b ≤ times (new u u z) a b + there (dropped inner w) a b
     put-one k = omega (arith, there-put u z k (dropped inner w) a b)
 
-chain-after : (w : Points) (u v z : ℕ) (inner : List ℕ) (a b : ℕ)
+pub chain-after : (w : Points) (u v z : ℕ) (inner : List ℕ) (a b : ℕ)
     → there (chained w u v z inner) a b ≤ times (new u v z) a b + there (dropped inner w) a b
 unfolding chained new
 chain-after w u v z inner a b = put-three _ _ _

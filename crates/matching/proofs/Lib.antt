@@ -28,14 +28,17 @@ pub mod Ring
 pub mod Chain
 pub mod Tally
 pub mod Count
+pub mod Gone
 pub mod Exact
 -- Finding steps.
 pub mod Partners
 pub mod Rows
 pub mod Search
 pub mod Find
+pub mod More
 -- Slips, reduce, and demand 3.
 pub mod Reduce
+pub mod Course
 pub mod Demand
 -- Solving.
 pub mod Solve

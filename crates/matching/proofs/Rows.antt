@@ -154,7 +154,7 @@ module _ {n : ℕ} {w : Points} (g : Graph n w) where
   -- ---- the row that is read by walking
 
   -- of the two partners, the one to go on to
-  onward-between : (from at a b : ℕ) → partners n w at ≡ a ∷ b ∷ [] → 0 < w at from
+  pub onward-between : (from at a b : ℕ) → partners n w at ≡ a ∷ b ∷ [] → 0 < w at from
       → Between n w from at (cond (eqb a from) b a)
   onward-between from at a b e h = go (eqT a from) (between-only g two from h)
     where
@@ -242,6 +242,14 @@ module _ {n : ℕ} {w : Points} (g : Graph n w) where
         row-run c cs v (live .1) (λ x m. two x (mem-on x c cs m)) (i .1) (i .0) (j .1) (inl (j .0)),
       )
 
+  -- a cell of degree two is one of the n cells
+  pub two-below : (c : ℕ) → degree n w c ≡ 2 → c < n
+  two-below c two = go (partners n w c) refl
+    where
+      go : (ps : List ℕ) → partners n w c ≡ ps → c < n
+      go [] e = absurd (omega (arith, ap length e))
+      go (x ∷ xs) e = pair-below g c x (partner-of g c x (rw e (mem-head x x xs refl))) .0
+
   module _ {u : ℕ} {inner : List ℕ} {v : ℕ} (r : IsRow n w u inner v) where
     pub is-run : Run n w u inner v
     is-run = row-run u inner v (r .live) (r .two) (r .apart) (r .first-off) (r .last-off) (inr (r .more))
@@ -258,11 +266,7 @@ module _ {n : ℕ} {w : Points} (g : Graph n w) where
         go (c ∷ cs) l = mem-head c c cs refl
 
     pub inner-below : (c : ℕ) → mem c inner ≡ true → c < n
-    inner-below c m = go (partners n w c) refl
-      where
-        go : (ps : List ℕ) → partners n w c ≡ ps → c < n
-        go [] e = absurd (omega (arith, ap length e, r .two c m))
-        go (x ∷ xs) e = pair-below g c x (partner-of g c x (rw e (mem-head x x xs refl))) .0
+    inner-below c m = two-below c (r .two c m)
 
     -- n is fuel enough
     pub row-of : Ends n w u v → row n (partners n w) u u (first v inner) ≡ (inner, v)

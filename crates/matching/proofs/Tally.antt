@@ -1,7 +1,7 @@
 -- How many cells of a graph have pairs, and how many pairs it has. In order: the cells as a sum over the cells, and
--- when there are fewer of them (`cells-fewer`); sums over all pairs a < b below n; the length of the short list is such
--- a sum, and when it is no longer than that of another graph (`pairs-no-more`). Assumes nothing.
-use mathlib.Core.Path.{_≡_, refl, ap, ap₂, fun-ext, _∙_}
+-- when some of them are gone (`cells-gone`, `cells-fewer`); sums over all pairs a < b below n; the length of the short
+-- list is such a sum, and when it is no longer than that of another graph (`pairs-no-more`). Assumes nothing.
+use mathlib.Core.Path.{_≡_, refl, ap, ap₂, subst, fun-ext, _∙_}
 use mathlib.Core.Logic.{inl, inr, _≢_}
 use mathlib.Core.Bool.{Bool, true, false, cond, _&&_}
 use mathlib.Core.List.{List, [], _∷_}
@@ -14,7 +14,7 @@ use Rattle.matching.specs.Lists.{mem}
 use Rattle.matching.specs.Pairs.{Pair, Points, ι, sum, Each, like}
 use Rattle.matching.specs.Listed.{Entry, shortAt, shortBelow, shortList}
 use Rattle.matching.specs.Graph.{Graph, partners, degree, paired, cellsLeft}
-use Rattle.matching.proofs.Tests.{Test, pass, fail, eqT, ltT, holds}
+use Rattle.matching.proofs.Tests.{Test, pass, fail, isT, eqT, ltT, holds}
 use Rattle.matching.proofs.Members.{no-mem, mem-head}
 use Rattle.matching.proofs.Pairs.{Same}
 use Rattle.matching.proofs.Sums.{each-map, ι-is, ι-not, zero-like, like-self, like-flip}
@@ -59,30 +59,38 @@ degree-live n w c = go (partners n w c) refl
     go [] e h = absurd (omega arith)
     go (x ∷ xs) e h = (x, holds (partnerT n w c x) (rw e (mem-head x x xs refl)) .1)
 
--- w′ has pairs only at cells that w has pairs at, and none at one of them
-pub cells-fewer : {n : ℕ} {w : Points} → Graph n w → (w′ : Points) → ((a b : ℕ) → 0 < w′ a b → Live w a)
-    → (c : ℕ) → Live w c → ((x : ℕ) → 0 < w′ c x → ⊥) → cellsLeft n w′ < cellsLeft n w
+-- w′ has pairs only at cells that w has pairs at, and none at some of them
+pub cells-gone : {n : ℕ} {w : Points} → Graph n w → (w′ : Points) → ((a b : ℕ) → 0 < w′ a b → Live w a)
+    → (gone : ℕ → Bool) → ((c : ℕ) → gone c ≡ true → Live w c × ((x : ℕ) → 0 < w′ c x → ⊥))
+    → sumTo n (λ i. ι (gone i)) + cellsLeft n w′ ≤ cellsLeft n w
 unfolding alive
-cells-fewer {n} {w} g w′ keep c l gone =
+cells-gone {n} {w} g w′ keep gone lost =
     omega (
       arith,
       cells-sum n w n,
       cells-sum n w′ n,
-      sumTo-le n (λ i. alive n w′ i + ι (eqb c i)) (alive n w) (λ i. at i (ltT 0 (degree n w′ i))),
-      sumTo-add n (alive n w′) (λ i. ι (eqb c i)),
+      sumTo-le n (λ i. ι (gone i) + alive n w′ i) (alive n w) (λ i. at i (isT (gone i)) (ltT 0 (degree n w′ i))),
+      sumTo-add n (λ i. ι (gone i)) (alive n w′),
+    )
+  where
+    at : (i : ℕ) → {s t : Bool} → Test (gone i ≡ true) (gone i ≡ false) s
+        → Test (0 < degree n w′ i) (degree n w′ i ≤ 0) t → ι s + ι t ≤ alive n w i
+    at i (pass e) (pass h) = let k = degree-live n w′ i h in absurd (lost i e .1 (k .0) (k .1))
+    at i (pass e) (fail h) = omega (arith, live-alive g i (lost i e .0))
+    at i (fail e) (pass h) = let k = degree-live n w′ i h in omega (arith, live-alive g i (keep i (k .0) (k .1)))
+    at i (fail e) (fail h) = omega arith
+
+-- none at one of them
+pub cells-fewer : {n : ℕ} {w : Points} → Graph n w → (w′ : Points) → ((a b : ℕ) → 0 < w′ a b → Live w a)
+    → (c : ℕ) → Live w c → ((x : ℕ) → 0 < w′ c x → ⊥) → cellsLeft n w′ < cellsLeft n w
+cells-fewer {n} {w} g w′ keep c l gone =
+    omega (
+      arith,
+      cells-gone g w′ keep (eqb c) (λ i h. subst (λ (k : ℕ). Live w k × ((x : ℕ) → 0 < w′ k x → ⊥))
+          (holds (eqT c i) h) (l, gone)),
       sumTo-at c (λ i. ι (eqb c i)) (λ i d. ι-not c i (λ e. d (omega arith))) n .0 (pair-below g c (l .0) (l .1) .0),
       ι-is c {b = c} refl,
     )
-  where
-    at : (i : ℕ) → {t : Bool} → Test (0 < degree n w′ i) (degree n w′ i ≤ 0) t → ι t + ι (eqb c i) ≤ alive n w i
-    at i (pass h) =
-        let k = degree-live n w′ i h in
-        omega (arith, live-alive g i (keep i (k .0) (k .1)), ι-not c i (λ e. gone (k .0) (rw e (k .1))))
-    at i (fail h) = here (eqT c i)
-      where
-        here : {t : Bool} → Test (c ≡ i) (c ≢ i) t → 0 + ι t ≤ alive n w i
-        here (pass e) = omega (arith, live-alive g i (rw (← e) l))
-        here (fail d) = omega arith
 
 -- ---- sums over pairs
 

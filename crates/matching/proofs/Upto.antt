@@ -56,7 +56,7 @@ module _ (c : ℕ) (f : ℕ → ℕ) (only : (i : ℕ) → i ≢ c → f i ≡ 0
       go (fail h) = omega (arith, sumTo-at n .1 h)
 
 -- the numbers of a list below n, counted
-sumTo-count : (n : ℕ) (xs : List ℕ) → ((c : ℕ) → mem c xs ≡ true → c < n) → sumTo n (λ i. count i xs) ≡ length xs
+pub sumTo-count : (n : ℕ) (xs : List ℕ) → ((c : ℕ) → mem c xs ≡ true → c < n) → sumTo n (λ i. count i xs) ≡ length xs
 sumTo-count n [] low = sumTo-at n (λ i. 0) (λ i d. refl) n .1 (omega arith)
 sumTo-count n (x ∷ xs) low =
     omega (

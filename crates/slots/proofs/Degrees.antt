@@ -37,7 +37,7 @@ degree-none zero w c z = refl
 degree-none (suc n) w c z =
     omega (arith, degree-suc n w c, ap ι (le-ltb 0 (w c n) (omega (arith, z n))), degree-none n w c z)
 
-degree-same : (n : ℕ) (w w′ : Points) (c : ℕ) → ((x : ℕ) → x < n → w′ c x ≡ w c x) → degree n w′ c ≡ degree n w c
+pub degree-same : (n : ℕ) (w w′ : Points) (c : ℕ) → ((x : ℕ) → x < n → w′ c x ≡ w c x) → degree n w′ c ≡ degree n w c
 unfolding partners
 degree-same zero w w′ c e = refl
 degree-same (suc n) w w′ c e =

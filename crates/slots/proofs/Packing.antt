@@ -22,9 +22,11 @@ use Rattle.slots.specs.Slots.{
   Changed,
   Beyond,
   NoSlots,
+  live,
 }
 use Rattle.slots.proofs.Stores.{stored-first, stored-last, elsewhere-both, aside-both, aside-on}
 use Rattle.slots.proofs.Graphs.{graph-gone, graph-put, holds-none}
+use Rattle.slots.proofs.Lives.{live-none, live-more, live-past}
 
 -- ---- cells without slots
 
@@ -52,11 +54,12 @@ none-aside c w l =
 
 -- ---- the slots met so far
 
--- The slots below i of w0 stand packed in the j slots of w1; those from i on are as they were. Nothing aside changed
--- since the second buffer was v.
+-- The live slots below i of w0 stand packed in the j slots of w1; those from i on are as they were. Nothing aside
+-- changed since the second buffer was v.
 pub record Packed (e : ℕ) (w0 v w1 w2 : List ℕ) (i j : ℕ) : Type 0 where
   pub at : i ≤ e
   pub fewer : j ≤ i
+  pub count : j ≡ live i w0
   pub changed : Changed j (graphOf i w0) w1 v w2
   pub rest : (k : ℕ) → i ≤ k → k < e
       → (getD w1 k 0 ≡ getD w0 k 0) × (getD w1 (4096 + k) 0 ≡ getD w0 (4096 + k) 0)
@@ -67,6 +70,7 @@ unfolding total graph
 pack-start {e} {w1} {w2} {v} h n q = record {
   at = omega arith;
   fewer = omega arith;
+  count = sym (live-none w1);
   changed = record {
     holds = holds-none w1 v (h .room1) (omega (arith, h .room2)) n;
     graph = refl;
@@ -95,6 +99,7 @@ module _ {e : ℕ} {w0 w02 v w1 w2 : List ℕ} {i j : ℕ} (h0 : Holds e w0 w02)
         record {
           at = omega arith;
           fewer = omega (arith, p .fewer);
+          count = omega (arith, p .count, live-past i w0 (sym (here .0) ∙ z));
           changed = record {
             holds = p .changed .holds;
             graph = p .changed .graph ∙ rw add-one (sym (graph-gone (store w0 []) i (sym (here .0) ∙ z)));
@@ -103,13 +108,14 @@ module _ {e : ℕ} {w0 w02 v w1 w2 : List ℕ} {i j : ℕ} (h0 : Holds e w0 w02)
           rest = λ k a b. p .rest k (omega arith) b;
         }
 
-    pub pack-live : {w1′ w2′ : List ℕ}
+    pub pack-live : {w1′ w2′ : List ℕ} → 0 < getD w1 i 0
         → Changed (j + 1) (put (lowOf w1 i) (highOf w1 i) (getD w1 i 0) (graphOf j w1)) w1′ w2 w2′ → Beyond j w1 w1′
         → Packed e w0 v w1′ w2′ (i + 1) (j + 1)
-    pack-live {w1′} {w2′} h b =
+    pack-live {w1′} {w2′} pos h b =
         record {
           at = omega arith;
           fewer = omega (arith, p .fewer);
+          count = omega (arith, p .count, live-more i w0 (omega (arith, here .0)));
           changed = record {
             holds = h .holds;
             graph =
@@ -126,9 +132,10 @@ module _ {e : ℕ} {w0 w02 v w1 w2 : List ℕ} {i j : ℕ} (h0 : Holds e w0 w02)
         }
 
 pub pack-end : {e : ℕ} {w0 v w1 w2 : List ℕ} {i j : ℕ} → Packed e w0 v w1 w2 i j → e ≤ i → (w02 : List ℕ) → Aside w02 v
-    → (j ≤ e) × Changed j (graphOf e w0) w1 w02 w2
+    → (j ≡ live e w0) × (j ≤ e) × Changed j (graphOf e w0) w1 w02 w2
 pack-end {e} {w0} {v} {w1} {w2} {i} {j} p l w02 a =
     let q : i ≡ e = omega (arith, p .at) in (
+      p .count ∙ ap (λ (k : ℕ). live k w0) q,
       omega (arith, p .fewer),
       record {
         holds = p .changed .holds;

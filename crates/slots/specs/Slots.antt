@@ -12,7 +12,7 @@ use mathlib.Core.List.{List, []}
 use Prim.Native.Nat.{ℕ, zero, suc, _+_, _*_, _-_, _/_, _%_, _≤_, _<_}
 use lib.Dec.{eqb, ltb}
 use lib.ListN.{length, getD}
-use Rattle.matching.specs.Pairs.{Points, same, touches}
+use Rattle.matching.specs.Pairs.{Points, ι, same, touches}
 
 -- The sum of f below e.
 unfoldable pub total : (ℕ → ℕ) → ℕ → ℕ
@@ -47,6 +47,10 @@ store w1 w2 = record {
   sums = λ c. getD w2 (4096 + c) 0;
   lasts = λ c. getD w2 (5120 + c) 0;
 }
+
+-- How many of the slots below e are live.
+unfoldable pub live : ℕ → List ℕ → ℕ
+live e w1 = total (λ i. ι (ltb 0 (getD w1 i 0))) e
 
 -- The weight of a pair: that of the slots below e that join the two cells.
 unfoldable pub graph : Store → ℕ → Points

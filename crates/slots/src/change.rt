@@ -7,7 +7,7 @@ ghost use lib.ListN.{length, getD, set};
 ghost use Rattle.matching.specs.Graph.{put, partners};
 ghost use Rattle.matching.specs.Steps.{leafed};
 ghost use Rattle.slots.specs.Slots.{Holds, graphOf, lowOf, highOf, Joins, Changed};
-ghost use Rattle.slots.specs.Slots.{Aside, Beyond, lessAll, NoSlots};
+ghost use Rattle.slots.specs.Slots.{Aside, Beyond, lessAll, NoSlots, live};
 
 // Slot e gets the pair a, b.
 pub fn append(w1: &mut [u64], w2: &mut [u64], e: usize, a: usize, b: usize, w: u64)
@@ -97,7 +97,7 @@ fn no_slots(w2: &mut [u64])
 // Gone slots are dropped: the number of slots left.
 pub fn pack(w1: &mut [u64], w2: &mut [u64], e: usize) -> usize
     requires { ⌜ Holds e (now w1) (now w2) ⌝ }
-    ensures { λ r. ⌜ (r ≤ e) × Changed r (graphOf e (now (w1 .entry)))
+    ensures { λ r. ⌜ (r ≡ live e (now (w1 .entry))) × (r ≤ e) × Changed r (graphOf e (now (w1 .entry)))
         (now (w1 .exit)) (now (w2 .entry)) (now (w2 .exit)) ⌝ }
 {
     no_slots(w2);

@@ -1,11 +1,13 @@
 // Reading the graph that the buffers hold.
 use crate::words;
 ghost use mathlib.Core.Path.{_≡_};
+ghost use mathlib.Core.Bool.{true};
 ghost use Prim.Native.Nat.{_+_, _-_, _<_};
 ghost use lib.ListN.{length};
 ghost use Rattle.matching.specs.Graph.{partners};
-ghost use Rattle.slots.specs.Slots.{Holds, graphOf, Joins};
-ghost use Rattle.slots.specs.Found.{FindSlot, Next, Only};
+ghost use Rattle.matching.specs.Pairs.{touches};
+ghost use Rattle.slots.specs.Slots.{Holds, graphOf, lowOf, highOf, Joins};
+ghost use Rattle.slots.specs.Found.{FindSlot, Next, Only, LastSlot, SlotOf};
 
 // A cell with the slot of its pair.
 pub struct Other {
@@ -45,6 +47,31 @@ pub fn step_on(w1: &[u64], w2: &[u64], e: usize, c: usize, prev: usize, i: usize
         partner: (k / 16777216 % 4194304) as usize,
         slot: (k % 16777216) as usize,
     }
+}
+
+// The last slot of c, its number + 1, or 0 where there is none.
+pub fn last_slot(w1: &[u64], w2: &[u64], e: usize, c: usize) -> usize
+    requires { ⌜ (Holds e (now w1) (now w2)) × (c < 1024) ⌝ }
+    ensures { λ r. ⌜ LastSlot (now (w1 .entry)) c e r ⌝ }
+{
+    w2[words::LASTS + c] as usize
+}
+
+// The last slot of c before slot i, which has c: its number + 1, or 0 where there is none.
+pub fn slot_before(w1: &[u64], w2: &[u64], e: usize, c: usize, i: usize) -> usize
+    requires { ⌜ (Holds e (now w1) (now w2)) × (i < e) × (touches c (lowOf (now w1) i) (highOf (now w1) i) ≡ true) ⌝ }
+    ensures { λ r. ⌜ LastSlot (now (w1 .entry)) c i r ⌝ }
+{
+    words::link(w1, i, c)
+}
+
+// The partner of c in slot i.
+pub fn partner(w1: &[u64], w2: &[u64], e: usize, c: usize, i: usize) -> usize
+    requires { ⌜ (Holds e (now w1) (now w2)) × SlotOf e (now w1) c i ⌝ }
+    ensures { λ r. ⌜ Joins e (now (w1 .entry)) i c r × (r < 1024) ⌝ }
+{
+    let x = w1[words::CELL_WORDS + i];
+    (x % 1024) as usize + (x / 1024 % 1024) as usize - c
 }
 
 // The live slot that joins u and v, its number + 1, or 0 where there is none.

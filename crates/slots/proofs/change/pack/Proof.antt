@@ -1,5 +1,5 @@
--- `pack` appends each live slot anew. Invariant: the slots below i stand packed in j slots, and those from i on are as
--- they were.
+-- `pack` appends each live slot anew. Invariant: the live slots below i stand packed in j slots, and those from i on
+-- are as they were.
 use mathlib.Core.Path.{_≡_, refl, _∙_}
 use Prim.Native.Nat.{_-_}
 use native.Mathlib.Omega.{arith}
@@ -84,7 +84,8 @@ loop-again c =
     let h = m .append in (
       h .kept .0 ∙ l .inv .0,
       h .kept .1 .0 ∙ l .inv .1,
-      pack-live (s .pre) (l .inv .2) (g .loop-test .taken) (h .ensures .0) (h .ensures .1),
+      pack-live (s .pre) (l .inv .2) (g .loop-test .taken) (m .before .before .before .if1 .taken)
+          (h .ensures .0) (h .ensures .1),
     )
 
 loop-less-2 : tie.Need-loop-less-2 Inv-loop μ-loop

@@ -1,0 +1,4 @@
+-- The laws of replaying and reducing.
+pub mod Loading
+pub mod Placing
+pub mod Listing

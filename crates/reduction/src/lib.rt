@@ -1,0 +1,2 @@
+// Replaying a slip and reducing a list.
+pub mod lists;

@@ -1,0 +1,8 @@
+-- The laws of finding and taking steps.
+pub mod Walks
+pub mod Turned
+pub mod Ways
+pub mod Rowed
+pub mod Scans
+pub mod Gone
+pub mod Taken

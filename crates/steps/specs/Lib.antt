@@ -1,0 +1,7 @@
+-- Finding and taking steps on the working graph.
+pub mod Walks
+pub mod Rows
+pub mod Finding
+pub mod Taking
+pub mod Trail
+pub mod Applying
