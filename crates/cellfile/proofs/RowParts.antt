@@ -148,7 +148,7 @@ apart-front u c (x ∷ cs) d f =
 
 -- ---- parts of the words
 
-length-row : (w : Points) (u : ℕ) (cs : List ℕ) (v : ℕ) → length (rowWords w u cs v) ≡ suc (length cs)
+pub length-row : (w : Points) (u : ℕ) (cs : List ℕ) (v : ℕ) → length (rowWords w u cs v) ≡ suc (length cs)
 length-row w u [] v = refl
 length-row w u (c ∷ cs) v = ap suc (length-row w c cs v)
 

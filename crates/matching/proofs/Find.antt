@@ -334,7 +334,7 @@ module _ {n : ℕ} {w : Points} (g : Graph n w) where
   step-name by-ring c (ring u z inner) p = ap (λ x. (by-ring, x)) (p .0)
   step-name by-chain c (chain u v z inner) p = ap (λ x. (by-chain, x)) (p .0)
 
-  step-below : (r : Rule) (c : ℕ) (s : Step) → IsStep n w r c s → c < n
+  pub step-below : (r : Rule) (c : ℕ) (s : Step) → IsStep n w r c s → c < n
   step-below by-leaf c (leaf u v) p = omega (arith, pair-below g v u (p .1 .pair) .0)
   step-below by-ring c (ring u z inner) p = omega (arith, inner-below g (p .1 .row) z (p .1 .low .here))
   step-below by-chain c (chain u v z inner) p = omega (arith, inner-below g (p .1 .row) z (p .1 .low .here))

@@ -2,3 +2,5 @@
 pub mod Loading
 pub mod Placing
 pub mod Listing
+pub mod Coursing
+pub mod Runs

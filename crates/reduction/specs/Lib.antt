@@ -1,3 +1,6 @@
 -- Replaying a slip and reducing a list.
+pub mod Calls
+pub mod Course
+pub mod Running
 pub mod Pairs
 pub mod Loads

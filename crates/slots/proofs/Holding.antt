@@ -1,8 +1,9 @@
 -- What callers need of buffers that hold a graph, so that they never look into `Holds`. In order: their room; a word on
--- the trail changes nothing (`holds-trail`); the pair that a live slot joins, and the slots that stay when another
--- goes (`joins-put`, `joins-one`, `joins-pair`, `joins-other`). Assumes nothing.
+-- the trail or the slip changes nothing (`holds-aside`, `holds-trail`); a pair put in either order of its cells
+-- (`put-turned`); the pair that a live slot joins, and the slots that stay when another goes (`joins-put`, `joins-one`,
+-- `joins-pair`, `joins-other`). Assumes nothing.
 use mathlib.Core.Path.{_≡_, refl, ap, _∙_, fun-ext}
-use mathlib.Core.Logic.{inl, inr, _≢_}
+use mathlib.Core.Logic.{_⊎_, inl, inr, _≢_}
 use mathlib.Core.Bool.{cond, _&&_}
 use mathlib.Core.List.{List, []}
 use Prim.Native.Nat.{ℕ, _+_, _≤_, _<_}
@@ -24,11 +25,13 @@ use Rattle.slots.proofs.Links.{last-same}
 pub holds-room : {e : ℕ} {w1 w2 : List ℕ} → Holds e w1 w2 → (8192 ≤ length w1) × (8192 ≤ length w2) × (e ≤ 4096)
 holds-room h = (h .room1, h .room2, h .slots .most)
 
--- ---- the trail
+-- ---- words aside
 
-pub holds-trail : {e : ℕ} {w1 w2 : List ℕ} → Holds e w1 w2 → (t k : ℕ) → t < 4096 → Holds e w1 (set w2 t k)
+-- a word of the second buffer that is not the graph's is set
+pub holds-aside : {e : ℕ} {w1 w2 : List ℕ} → Holds e w1 w2 → (t k : ℕ) → (t < 4096) ⊎ (6144 ≤ t)
+    → Holds e w1 (set w2 t k)
 unfolding graph
-holds-trail {e} {w1} {w2} h t k l = record {
+holds-aside {e} {w1} {w2} h t k off = record {
   room1 = h .room1;
   room2 = omega (arith, h .room2, as-long w2 t k refl);
   slots = record {
@@ -39,17 +42,26 @@ holds-trail {e} {w1} {w2} h t k l = record {
       h .slots .links i m .0 ∙ lasts-kept (lowOf w1 i) i,
       h .slots .links i m .1 ∙ lasts-kept (highOf w1 i) i,
     );
-    sums = λ c m. elsewhere w2 t k refl (4096 + c) (omega arith) ∙ h .slots .sums c m;
-    lasts = λ c m. elsewhere w2 t k refl (5120 + c) (omega arith) ∙ h .slots .lasts c m ∙ lasts-kept c e;
+    sums = λ c m. elsewhere w2 t k refl (4096 + c) (apart (4096 + c) (omega arith) (omega arith) off)
+        ∙ h .slots .sums c m;
+    lasts = λ c m. elsewhere w2 t k refl (5120 + c) (apart (5120 + c) (omega arith) (omega arith) off)
+        ∙ h .slots .lasts c m ∙ lasts-kept c e;
   };
 }
   where
     lasts-kept : (c i : ℕ) → last (store w1 w2) c i ≡ last (store w1 (set w2 t k)) c i
     lasts-kept c i = last-same (store w1 (set w2 t k)) (store w1 w2) c i (λ j m. (refl, refl))
 
+    apart : (j : ℕ) → 4096 ≤ j → j < 6144 → (t < 4096) ⊎ (6144 ≤ t) → j ≢ t
+    apart j a b (inl l) = λ q. omega arith
+    apart j a b (inr l) = λ q. omega arith
+
+pub holds-trail : {e : ℕ} {w1 w2 : List ℕ} → Holds e w1 w2 → (t k : ℕ) → t < 4096 → Holds e w1 (set w2 t k)
+holds-trail h t k l = holds-aside h t k (inl l)
+
 -- ---- the pair of a live slot
 
-put-turned : (x y k : ℕ) (g : Points) → put x y k g ≡ put y x k g
+pub put-turned : (x y k : ℕ) (g : Points) → put x y k g ≡ put y x k g
 unfolding put
 put-turned x y k g =
     fun-ext (λ a. fun-ext (λ b. ap (λ t. cond t k (g a b)) (or-turn (eqb a x && eqb b y) (eqb a y && eqb b x))))

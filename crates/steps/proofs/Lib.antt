@@ -6,3 +6,5 @@ pub mod Rowed
 pub mod Scans
 pub mod Gone
 pub mod Taken
+pub mod Putting
+pub mod Applied

@@ -1,6 +1,7 @@
--- The row of a ring or a chain is taken pair by pair. In order: what one pair taken leaves (`pair-taken`); the rest of
--- the row while it is taken (`Ahead`, `Going`), where it starts, what it gives the next pair, how it goes on and how
--- it ends (`going-start`, `going-two`, `going-pair`, `going-on`, `going-end`). Assumes nothing.
+-- The row of a ring or a chain is taken pair by pair. In order: words that did not change (`take-same`); what one pair
+-- taken leaves (`pair-taken`); the rest of the row while it is taken (`Ahead`, `Going`), where it starts, what it gives
+-- the next pair, how it goes on and how it ends (`going-start`, `going-two`, `going-pair`, `going-on`, `going-end`).
+-- Assumes nothing.
 use mathlib.Core.Path.{_≡_, refl, sym, ap, subst, _∙_}
 use mathlib.Core.Logic.{_⊎_, inl, inr, _≢_}
 use mathlib.Core.Bool.{true, false, cond}
@@ -35,7 +36,7 @@ use Rattle.steps.proofs.Gone.{put-away, put-most, Agree, run-same, word
 
 -- ---- one pair
 
-take-same : (w w′ : List ℕ) (t : ℕ) → length w′ ≡ length w → t ≤ length w
+pub take-same : (w w′ : List ℕ) (t : ℕ) → length w′ ≡ length w → t ≤ length w
     → ((j : ℕ) → j < t → getD w′ j 0 ≡ getD w j 0) → take t w′ ≡ take t w
 take-same w w′ t l m h =
     ext-getD 0 (take t w′) (take t w) (length-take-le t w′ (omega arith) ∙ sym (length-take-le t w m))

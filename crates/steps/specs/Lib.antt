@@ -3,5 +3,6 @@ pub mod Walks
 pub mod Rows
 pub mod Finding
 pub mod Taking
+pub mod Putting
 pub mod Trail
 pub mod Applying

@@ -1,0 +1,204 @@
+-- `run` takes step after step. Invariant: allowed steps were taken, and the rest of the course goes on from there.
+use mathlib.Core.Path.{_≡_, refl, sym, ap, _∙_}
+use mathlib.Core.Option.{Option, some}
+use Prim.Native.Nat.{_+_, _-_}
+use native.Mathlib.Omega.{arith}
+use lib.ListN.{length}
+use borrow.Author.Needs.{needs}
+use Rattle.matching.specs.Steps.{Step, name}
+use Rattle.slots.specs.Slots.{graphOf}
+use Rattle.slots.proofs.Holding.{holds-room}
+use Rattle.reduction.specs.Calls.{numberOf}
+use Rattle.reduction.specs.Running.{namesFrom, nextStep, named, toName}
+use Rattle.reduction.proofs.Runs.{Coursing, run-start, run-graph, run-name, run-few, run-there, run-step, run-on, run-length}
+use Rattle.reduction.proofs.Runs.{run-carries, run-refused, run-ends, run-out, found-name, found-none}
+use Rattle.reduction.proofs.running.run.Statement.{statement}
+use Rattle.reduction.proofs.running.run.Tie as tie
+
+abbrev Inv-loop : tie.InvT-loop
+Inv-loop slip m more n w1₀ w2₀ e slots₀ trail₀ carried₀ k₀ w1 w2 slots trail carried k =
+    (length w1 ≡ length w1₀) × (length w2 ≡ length w2₀)
+    × Coursing n (graphOf e w1₀) m more slip slots trail carried k w1 w2
+
+abbrev μ-loop : tie.MeasureT-loop
+μ-loop slip m more n w1₀ w2₀ e slots₀ trail₀ carried₀ k₀ w1 w2 slots trail carried k = m + more - k
+
+-- the step that comes next; its name
+abbrev following : tie.After-name-of Inv-loop μ-loop → Option Step
+following g =
+    let l = g .before .before .before .before .before .loop in
+    let a = g .before .before .before .before .before .before .before .before .before .args in
+    nextStep (a .n) (graphOf (l .slots) (l .w1)) (namesFrom (a .m) (a .slip .now) (l .k))
+
+the-name : (g : tie.After-name-of Inv-loop μ-loop) → named (g .name-of .result) ≡ toName (following g)
+the-name g = g .name-of .ensures (following g) (g .before .next .ensures .step)
+
+the-step : (g : tie.After-known-told Inv-loop μ-loop)
+    → let r = g .before .rule .given .0 in
+    (s : Step) × (following (g .before .before .before) ≡ some s) × (r .0 ≡ numberOf (name s .0)) × (r .1 .0 ≡ name s .1)
+the-step g = found-name (following (g .before .before .before)) (the-name (g .before .before .before)) (g .before .rule .given .1)
+
+loop-holds : tie.Need-loop-holds Inv-loop μ-loop
+loop-holds c = (refl, refl, run-start (c .before .before .before .args .more) (c .before .before .before .pre .0))
+
+add-loop : tie.Need-add-loop Inv-loop μ-loop
+add-loop c = let p = c .before .before .before .before .pre in omega (arith, p .0 .count, p .1)
+
+next-requires : tie.Need-next-requires Inv-loop μ-loop
+next-requires c κs =
+    let p = c .before .before .before .before .before .before .before .pre .0 in
+    let h = c .before .before .before .loop .inv .2 in
+    (h .after .holds, p .cells, run-graph (p .graph) (p .cells) (p .small) h, p .count, p .slip-room)
+
+name-of-requires : tie.Need-name-of-requires Inv-loop μ-loop
+name-of-requires c κs = search needs
+
+enum-known-rule : tie.Need-enum-known-rule Inv-loop μ-loop
+enum-known-rule c = search needs
+
+enum-told : tie.Need-enum-told Inv-loop μ-loop
+enum-told c = search needs
+
+same-length : tie.Need-same-length Inv-loop μ-loop
+same-length c = c .before .before .before .before .before .before .before .before .loop .inv .0
+
+same-length-2 : tie.Need-same-length-2 Inv-loop μ-loop
+same-length-2 c = c .before .before .before .before .before .before .before .before .loop .inv .1
+
+returns : tie.Need-returns Inv-loop μ-loop
+returns c =
+    let p = c .before .before .before .before .before .before .before .before .before .before .before .before .pre .0 in
+    let h = c .before .before .before .before .before .before .before .before .loop .inv .2 in
+    let o = found-none (following (c .before .before .before)) (the-name (c .before .before .before)) (c .before .enum-told .given .1) in
+    (refl, run-refused (p .graph) (p .cells) (p .small) h o (c .if1 .taken))
+
+take-step-requires : tie.Need-take-step-requires Inv-loop μ-loop
+take-step-requires c κs =
+    let p = c .before .before .before .before .before .before .before .before .before .before .before .before .before .before .pre .0 in
+    let x = the-step (c .before .before) in
+    run-there (p .graph) (p .cells) (p .small) (c .before .before .before .before .before .before .before .before .before .before .loop .inv .2) (x .0) (x .1) (c .before .before .before .before .before .before .next .ensures)
+
+mul-w2 : tie.Need-mul-w2 Inv-loop μ-loop
+mul-w2 c =
+    let p = c .before .before .before .before .before .before .before .before .before .before .before .before .before .before .before .before .before .before .before .pre .0 in
+    let x = the-step (c .before .before .before .before .before .before .before) in
+    let h = c .before .before .before .before .before .before .before .before .before .before .before .before .before .before .before .loop .inv .2 in
+    omega (arith, run-name (p .graph) (p .cells) (p .small) h (x .0) (x .1) (x .2) (x .3))
+
+add-w2 : tie.Need-add-w2 Inv-loop μ-loop
+add-w2 c =
+    let p = c .before .before .before .before .before .before .before .before .before .before .before .before .before .before .before .before .before .before .before .pre .0 in
+    let x = the-step (c .before .before .before .before .before .before .before) in
+    let h = c .before .before .before .before .before .before .before .before .before .before .before .before .before .before .before .loop .inv .2 in
+    omega (arith, run-name (p .graph) (p .cells) (p .small) h (x .0) (x .1) (x .2) (x .3))
+
+add-w2-2 : tie.Need-add-w2-2 Inv-loop μ-loop
+add-w2-2 c =
+    let p = c .before .before .before .before .before .before .before .before .before .before .before .before .before .before .before .before .before .before .before .pre .0 in
+    let x = the-step (c .before .before .before .before .before .before .before) in
+    let h = c .before .before .before .before .before .before .before .before .before .before .before .before .before .before .before .loop .inv .2 in
+    omega (arith, run-few (p .graph) (p .cells) (p .small) h (x .0) (x .1))
+
+mul-w2-2 : tie.Need-mul-w2-2 Inv-loop μ-loop
+mul-w2-2 c =
+    let p = c .before .before .before .before .before .before .before .before .before .before .before .before .before .before .before .before .before .before .before .pre .0 in
+    let x = the-step (c .before .before .before .before .before .before .before) in
+    let h = c .before .before .before .before .before .before .before .before .before .before .before .before .before .before .before .loop .inv .2 in
+    omega (arith, run-few (p .graph) (p .cells) (p .small) h (x .0) (x .1))
+
+slice-write-w2 : tie.Need-slice-write-w2 Inv-loop μ-loop
+slice-write-w2 c =
+    let p = c .before .before .before .before .before .before .before .before .before .before .before .before .before .before .before .before .before .before .before .pre .0 in
+    let x = the-step (c .before .before .before .before .before .before .before) in
+    let h = c .before .before .before .before .before .before .before .before .before .before .before .before .before .before .before .loop .inv .2 in
+    let few = run-few (p .graph) (p .cells) (p .small) h (x .0) (x .1) in
+    omega (arith, few, holds-room (h .after .holds), c .before .before .before .before .take-step .kept .1 .0)
+
+add-carried : tie.Need-add-carried Inv-loop μ-loop
+add-carried c =
+    let p = c .before .before .before .before .before .before .before .before .before .before .before .before .before .before .before .before .before .before .before .before .pre .0 in
+    let x = the-step (c .before .before .before .before .before .before .before .before) in
+    let h = c .before .before .before .before .before .before .before .before .before .before .before .before .before .before .before .before .loop .inv .2 in
+    let d = c .before .before .before .before .before .take-step .ensures (x .0) (run-step (p .graph) (p .cells) (p .small) h (x .0) (x .1) (c .before .before .before .before .before .before .before .before .before .before .before .before .next .ensures)) in
+    let q = run-carries (p .graph) (p .cells) (p .small) h (x .0) (x .1) in
+    omega (arith, d .carried, q)
+
+add-k : tie.Need-add-k Inv-loop μ-loop
+add-k c =
+    let p = c .before .before .before .before .before .before .before .before .before .before .before .before .before .before .before .before .before .before .before .before .pre .0 in
+    let x = the-step (c .before .before .before .before .before .before .before .before) in
+    let h = c .before .before .before .before .before .before .before .before .before .before .before .before .before .before .before .before .loop .inv .2 in
+    omega (arith, run-few (p .graph) (p .cells) (p .small) h (x .0) (x .1))
+
+loop-less : tie.Need-loop-less Inv-loop μ-loop
+loop-less c = omega (arith, c .before .before .before .before .before .before .before .before .before .before .before .before .before .before .before .loop-test .taken)
+
+loop-again : tie.Need-loop-again Inv-loop μ-loop
+loop-again c =
+    let p = c .before .before .before .before .before .before .before .before .before .before .before .before .before .before .before .before .before .before .before .before .pre .0 in
+    let x = the-step (c .before .before .before .before .before .before .before .before) in
+    let h = c .before .before .before .before .before .before .before .before .before .before .before .before .before .before .before .before .loop .inv .2 in
+    let l = c .before .before .before .before .before .before .before .before .before .before .before .before .before .before .before .before .loop in
+    let d = c .before .before .before .before .before .take-step .ensures (x .0) (run-step (p .graph) (p .cells) (p .small) h (x .0) (x .1) (c .before .before .before .before .before .before .before .before .before .before .before .before .next .ensures)) in
+    let k = c .before .before .before .before .before .take-step .kept in (
+      k .0 ∙ l .inv .0,
+      run-length (p .graph) (p .cells) (p .small) h (x .0) (x .1) d (k .1 .0) (x .2) (x .3) (c .before .before .before .before .before .before .before .before .before .before .before .before .before .before .before .loop-test .taken) ∙ l .inv .1,
+      run-on (p .graph) (p .cells) (p .small) h (x .0) (x .1) d (k .1 .0) (x .2) (x .3) (c .before .before .before .before .before .before .before .before .before .before .before .before .before .before .before .loop-test .taken),
+    )
+
+same-length-3 : tie.Need-same-length-3 Inv-loop μ-loop
+same-length-3 c = c .before .loop .inv .0
+
+same-length-4 : tie.Need-same-length-4 Inv-loop μ-loop
+same-length-4 c = c .before .loop .inv .1
+
+returns-2 : tie.Need-returns-2 Inv-loop μ-loop
+returns-2 c =
+    let p = c .before .before .before .before .before .pre .0 in
+    let l = c .before .loop in
+    run-out (p .graph) (p .cells) (p .small) (l .inv .2) (omega (arith, c .loop-test .left))
+
+same-length-5 : tie.Need-same-length-5 Inv-loop μ-loop
+same-length-5 c = c .before .before .before .before .before .before .before .before .loop .inv .0
+
+same-length-6 : tie.Need-same-length-6 Inv-loop μ-loop
+same-length-6 c = c .before .before .before .before .before .before .before .before .loop .inv .1
+
+returns-3 : tie.Need-returns-3 Inv-loop μ-loop
+returns-3 c =
+    let p = c .before .before .before .before .before .before .before .before .before .before .before .before .pre .0 in
+    let h = c .before .before .before .before .before .before .before .before .loop .inv .2 in
+    let o = found-none (following (c .before .before .before)) (the-name (c .before .before .before)) (c .before .enum-told .given .1) in
+    run-ends (p .graph) (p .cells) (p .small) h o (omega (arith, c .if1 .left))
+
+pub run-spec : {M : Type 1} → statement M
+run-spec =
+    tie.close
+    (tie.spec
+    Inv-loop
+    μ-loop
+    loop-holds
+    add-loop
+    next-requires
+    name-of-requires
+    enum-known-rule
+    enum-told
+    same-length
+    same-length-2
+    returns
+    take-step-requires
+    mul-w2
+    add-w2
+    add-w2-2
+    mul-w2-2
+    slice-write-w2
+    add-carried
+    add-k
+    loop-less
+    loop-again
+    same-length-3
+    same-length-4
+    returns-2
+    same-length-5
+    same-length-6
+    returns-3)

@@ -1,0 +1,108 @@
+// The loop of replay and reduce: see specs/Running and specs/Course.
+use cellfile::decode;
+use steps::applying;
+use steps::finding;
+use steps::finding::Found;
+use steps::finding::Step;
+ghost use mathlib.Core.Path.{_≡_};
+ghost use mathlib.Core.Option.{Option};
+ghost use Prim.Native.Nat.{_+_, _*_, _≤_, _<_};
+ghost use lib.ListN.{length};
+ghost use Rattle.matching.specs.Graph.{Graph};
+ghost use Rattle.matching.specs.Steps.{Step as DefinedStep};
+ghost use Rattle.slots.specs.Slots.{Holds, graphOf};
+ghost use Rattle.steps.specs.Finding.{told, toTell, Finds};
+ghost use Rattle.reduction.specs.Running.{RunThere, Runs, namesAt, namesFrom, nextStep, named, toName};
+
+// A refusal, or what stands in the buffers after the steps: the slots in use, the words on the trail, the points carried,
+// and the number of steps, which stand as words from 6,144 on in the second buffer.
+pub enum Ran {
+    Refused(u32),
+    Done {
+        slots: usize,
+        trail: usize,
+        carried: u64,
+        steps: usize,
+    },
+}
+
+// How a slip names a step.
+pub enum Named {
+    Step { rule: u64, cell: usize },
+    None,
+}
+
+const NAMES: usize = 6144;
+
+const RULE_UNIT: u64 = 1024;
+
+// The name of a step, or none.
+fn name_of(step: Step) -> Named
+    ensures { λ r. ⌜ ((o : Option DefinedStep) → told step ≡ toTell o → named r ≡ toName o) ⌝ }
+{
+    match step {
+        Step::Leaf { v, u: _ } => Named::Step { rule: 1, cell: v },
+        Step::Ring { u: _, z } => Named::Step { rule: 2, cell: z },
+        Step::Chain { u: _, v: _, z } => Named::Step { rule: 3, cell: z },
+        Step::None => Named::None,
+    }
+}
+
+// Step k: the one that the slip names, or behind its m steps the one that reduce takes.
+fn next(slip: &[u8], m: usize, k: usize, n: usize, w1: &[u64], w2: &[u64], e: usize) -> Found
+    requires { ⌜ (Holds e (now w1) (now w2)) × (n ≤ 1024) × Graph n (graphOf e (now w1)) × (m < 8192)
+        × (4 + 2 * m ≤ length (now slip)) ⌝ }
+    ensures { λ r. ⌜ Finds e (now (w1 .entry)) (nextStep n (graphOf e (now (w1 .entry)))
+        (namesFrom m (now (slip .entry)) k)) r ⌝ }
+{
+    if k < m {
+        let at = 4 + 2 * k;
+        let t = decode::step_at(&slip[at..]);
+        let rule = t.rule;
+        let cell = t.cell;
+        return finding::scan(w1, w2, e, rule, cell, cell + 1);
+    }
+    finding::first_step(w1, w2, e, n)
+}
+
+// Takes the first m steps of the slip, then at most `more` steps as reduce takes them.
+pub fn run(
+    slip: &[u8],
+    m: usize,
+    more: usize,
+    n: usize,
+    w1: &mut [u64],
+    w2: &mut [u64],
+    e: usize,
+) -> Ran
+    requires { ⌜ RunThere n e m (now slip) (now w1) (now w2) × (more ≤ 1024) ⌝ }
+    ensures { λ r. ⌜ Runs n (graphOf e (now (w1 .entry))) (namesAt m (now (slip .entry))) more
+        (now (w1 .exit)) (now (w2 .exit)) r ⌝ }
+{
+    let mut slots = e;
+    let mut trail = 0;
+    let mut carried = 0;
+    let mut k = 0;
+    while k < m + more {
+        let x = next(slip, m, k, n, w1, w2, slots);
+        let step = x.step;
+        let Named::Step { rule, cell } = name_of(step) else {
+            if k < m {
+                return Ran::Refused(8);
+            }
+            break;
+        };
+        let t = applying::take_step(w1, w2, slots, trail, x);
+        w2[NAMES + k] = rule * RULE_UNIT + cell as u64;
+        slots = t.slots;
+        trail = t.trail;
+        carried += t.carried;
+        k += 1;
+    }
+    Ran::Done {
+        slots,
+        trail,
+        carried,
+        steps: k,
+    }
+}
