@@ -4,3 +4,7 @@ pub mod Placing
 pub mod Listing
 pub mod Coursing
 pub mod Runs
+pub mod Courses
+pub mod Ends
+pub mod Replaying
+pub mod Reducing

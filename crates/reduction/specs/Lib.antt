@@ -4,3 +4,4 @@ pub mod Course
 pub mod Running
 pub mod Pairs
 pub mod Loads
+pub mod Writing

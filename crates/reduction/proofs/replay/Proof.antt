@@ -1,0 +1,47 @@
+-- `replay` answers what `replay_in` answers, and clears both buffers.
+use mathlib.Core.Path.{ap, _∙_}
+use Rattle.cellfile.specs.Files.{zeros}
+use borrow.Author.Needs.{needs}
+use Rattle.reduction.proofs.replay.Statement.{statement}
+use Rattle.reduction.proofs.replay.Tie as tie
+
+replay-in-requires : tie.Need-replay-in-requires
+replay-in-requires c κs = search needs
+
+clear-requires : tie.Need-clear-requires
+clear-requires c κs = search needs
+
+clear-requires-2 : tie.Need-clear-requires-2
+clear-requires-2 c κs = search needs
+
+same-length : tie.Need-same-length
+same-length c = search needs
+
+same-length-2 : tie.Need-same-length-2
+same-length-2 c = search needs
+
+same-length-3 : tie.Need-same-length-3
+same-length-3 c = search needs
+
+returns : tie.Need-returns
+returns c =
+    let at-clear = c .before .before .before .before .before .before in
+    let w = at-clear .before .before .before .before .before .before .before .before .replay-in in (
+      w .ensures .0,
+      (
+        w .ensures .1,
+        (at-clear .clear .ensures ∙ ap zeros (w .kept .1 .1 .0), c .before .before .clear2 .ensures ∙ ap zeros (w .kept .1 .1 .1 .0)),
+      ),
+    )
+
+pub replay-spec : {M : Type 1} → statement M
+replay-spec =
+    tie.close
+    (tie.spec
+    replay-in-requires
+    clear-requires
+    clear-requires-2
+    same-length
+    same-length-2
+    same-length-3
+    returns)

@@ -1,0 +1,1 @@
+-- The laws of the heaviest pairing of a set.

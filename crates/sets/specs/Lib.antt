@@ -1,0 +1,2 @@
+-- The heaviest pairing of a set of at most 12 cells.
+pub mod Sets

@@ -1,0 +1,52 @@
+-- A set of at most 12 cells, by their places in a list of cells, as a number whose bits tell which are in it; the points
+-- between them; the heaviest pairing of a set. Inner contracts cite this; what they promise is `solve` of crate matching.
+--
+-- The first words: the points between place i and place j at 12 × i + j, and from 144 on the cells. In the buffer that
+-- is written, the pairs found stand from 0 on, and from 4,096 on for each set 0, or its points and 1.
+use mathlib.Core.Path.{_≡_}
+use mathlib.Core.Bool.{cond}
+use mathlib.Core.List.{List, [], _∷_, _++_}
+use Prim.Native.Nat.{ℕ, zero, suc, _+_, _*_, _/_, _%_, _^_, _≤_, _<_}
+use lib.Dec.{eqb}
+use lib.ListN.{length, getD}
+use Rattle.matching.specs.Pairs.{Pair, Points, sum}
+use Rattle.matching.specs.Solve.{solve}
+use Rattle.cellfile.specs.Fields.{packed}
+use Rattle.cellfile.specs.Files.{pairing}
+
+-- The places below k that are in the set, ascending.
+unfoldable pub places : ℕ → ℕ → List ℕ
+places zero s = []
+places (suc k) s = places k s ++ cond (eqb (s / 2 ^ k % 2) 1) (k ∷ []) []
+
+abbrev pub inSet : ℕ → List ℕ
+inSet s = places 12 s
+
+abbrev pub between : List ℕ → Points
+between ws i j = getD ws (12 * i + j) 0
+
+abbrev pub cellAt : List ℕ → ℕ → ℕ
+cellAt ws i = getD ws (144 + i) 0
+
+-- The heaviest pairing of the set, and its points.
+abbrev pub heaviest : List ℕ → ℕ → List Pair
+heaviest ws s = solve 12 (between ws) (inSet s)
+
+abbrev pub points : List ℕ → ℕ → ℕ
+points ws s = sum (between ws) (heaviest ws s)
+
+-- A pair of places as a word of a pairing of the cells.
+abbrev pub pairOf : List ℕ → Pair → ℕ
+pairOf ws e = packed (pairing .entry) (cellAt ws (e .0) ∷ cellAt ws (e .1) ∷ 0 ∷ [])
+
+-- What is known of sets is right.
+abbrev pub Known : List ℕ → List ℕ → Type 0
+Known ws w1 = (s : ℕ) → s < 4096 → 0 < getD w1 (4096 + s) 0 → getD w1 (4096 + s) 0 ≡ suc (points ws s)
+
+pub record Ready (ws w1 : List ℕ) (s : ℕ) : Type 0 where
+  pub within : s < 4096
+  pub words : 156 ≤ length ws
+  pub room : 8192 ≤ length w1
+  pub light : (i : ℕ) → i < 144 → getD ws i 0 < 17592186044416
+  pub cells : (i : ℕ) → i < 12 → cellAt ws i < 1024
+  pub known : Known ws w1
