@@ -24,6 +24,26 @@ uint32_t cells_weigh(const uint8_t *list, size_t list_len,
                      uint64_t *work_b, size_t work_b_len,
                      uint64_t *points);
 
+/* Replays a slip (kind 3) on a store list and writes the short list (kind 2) that it leaves: *short_len is
+ * the length of the short list. Refusals: 1, 2 to 6 (the list), 7 (the slip's form), 8 (a step that is not
+ * allowed where it stands), 12 (the output is shorter than the short list). */
+uint32_t cells_replay(const uint8_t *list, size_t list_len,
+                      const uint8_t *slip, size_t slip_len,
+                      uint64_t *work_a, size_t work_a_len,
+                      uint64_t *work_b, size_t work_b_len,
+                      uint8_t *short_list, size_t short_room,
+                      uint64_t *short_len);
+
+/* Reduces a store list and writes the slip of its steps and the short list: *slip_len and *short_len are their
+ * lengths. Refusals: 1, 2 to 6 (the list), 12 (an output is shorter than its file: neither is written). */
+uint32_t cells_reduce(const uint8_t *list, size_t list_len,
+                      uint64_t *work_a, size_t work_a_len,
+                      uint64_t *work_b, size_t work_b_len,
+                      uint8_t *slip, size_t slip_room,
+                      uint8_t *short_list, size_t short_room,
+                      uint64_t *slip_len,
+                      uint64_t *short_len);
+
 #ifdef __cplusplus
 }
 #endif

@@ -1,53 +1,86 @@
 //! The comparison: every call of the C interface against the independent
 //! implementation, on worked rows and on many random inputs.
 //!
-//!     compare [SEED [CALLS]]
+//!     compare [SEED [CALLS [WRITING CALLS]]]
 //!
+//! CALLS are those of weigh, WRITING CALLS those of replay and reduce together.
 //! Each call is made over lent memory with guards round it. Its number, its
-//! points, every work word and every byte it was lent are looked at afterwards.
+//! answers, every work word and every byte it was lent are looked at afterwards.
 //! Exit status 1 if anything differs, or if some answer was met too seldom.
 //!
 //! A new call has a file of its own beside weigh.rs and is run from `main`.
 
 use std::env;
+use std::ops::Range;
 use std::process::exit;
 use std::time::Instant;
 
+mod cases;
 mod counts;
+mod graph;
 mod inputs;
 mod lent;
+mod reduce;
 mod reference;
+mod replay;
+mod rows;
+mod selfcheck;
+mod shapes;
+mod slips;
 mod weigh;
+mod writing;
 
 use weigh::Weighing;
 
 const SEED: u64 = 20_180_820;
 const CALLS: u64 = 24_000;
+const WRITING_CALLS: u64 = 20_000;
 
-// The seed and the number of calls, from the arguments where they are given.
-fn arguments() -> Option<(u64, u64)> {
+// The seed and the numbers of calls, from the arguments where they are given.
+fn arguments() -> Option<(u64, u64, u64)> {
     let words: Vec<String> = env::args().skip(1).collect();
     let number = |place: usize, usual: u64| match words.get(place) {
         None => Some(usual),
         Some(word) => word.parse().ok(),
     };
-    if words.len() > 2 {
+    if words.len() > 3 {
         return None;
     }
-    Some((number(0, SEED)?, number(1, CALLS)?))
+    Some((
+        number(0, SEED)?,
+        number(1, CALLS)?,
+        number(2, WRITING_CALLS)?,
+    ))
+}
+
+// Compares a call that writes files; what was met too seldom.
+fn compare_writing<C: writing::Call>(seed: u64, calls: Range<u64>) -> Vec<String> {
+    let start = Instant::now();
+    let comparison = writing::Comparison::<C>::run(seed, calls.clone());
+    print_time(seed, calls.end - calls.start, start);
+    comparison.print()
+}
+
+// Prints how long so many calls took.
+fn print_time(seed: u64, calls: u64, start: Instant) {
+    let seconds = start.elapsed().as_secs_f64();
+    println!("seed {seed}, {calls} random calls, {seconds:.2} seconds");
 }
 
 // Runs the comparison and ends with 0, 1 for a difference or too few calls, 2 for bad arguments.
 fn main() {
-    let Some((seed, calls)) = arguments() else {
-        println!("usage: compare [SEED [CALLS]]");
+    let Some((seed, calls, writing_calls)) = arguments() else {
+        println!("usage: compare [SEED [CALLS [WRITING CALLS]]]");
         exit(2);
     };
     let start = Instant::now();
     let weighing = Weighing::run(seed, calls);
-    let seconds = start.elapsed().as_secs_f64();
-    println!("seed {seed}, {calls} random calls, {seconds:.2} seconds");
-    let short = weighing.print();
+    print_time(seed, calls, start);
+    let mut short = weighing.print();
+    selfcheck::run(seed);
+    let half = writing_calls / 2;
+    short.extend(compare_writing::<replay::Replay>(seed, 0..half));
+    short.extend(compare_writing::<reduce::Reduce>(seed, half..writing_calls));
     for line in &short {
         println!("{line}");
     }

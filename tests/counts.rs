@@ -4,11 +4,12 @@ use std::collections::BTreeMap;
 
 use crate::lent::WORK_LENGTHS;
 
-/// How often acceptance, each refusal, and each refusal beside each later one
-/// must be met at least.
+/// How often acceptance, each refusal, each refusal beside each later one, and
+/// each name of a tally must be met at least.
 const FEWEST_ACCEPTED: u64 = 1000;
 const FEWEST_REFUSED: u64 = 100;
 const FEWEST_BESIDE: u64 = 20;
+const FEWEST_NAMED: u64 = 5;
 
 /// What was met of one call so far; `refusals` are those that the call has.
 pub struct Counts {
@@ -123,6 +124,52 @@ impl Counts {
                 let name = format!("refusal {first} beside {other}");
                 need(&mut short, &name, self.beside(first, other), FEWEST_BESIDE);
             }
+        }
+        short
+    }
+}
+
+/// How often each of some names was met: families of lists, or special cases.
+pub struct Tally {
+    title: &'static str,
+    names: Vec<&'static str>,
+    counts: BTreeMap<&'static str, u64>,
+}
+
+impl Tally {
+    /// Nothing met yet of these names.
+    pub fn new(title: &'static str, names: &[&'static str]) -> Tally {
+        Tally {
+            title,
+            names: names.to_vec(),
+            counts: BTreeMap::new(),
+        }
+    }
+
+    /// Counts a name; one that is not of this tally is an error of the comparison.
+    pub fn meet(&mut self, name: &'static str) {
+        assert!(self.names.contains(&name), "no name of a tally: {name}");
+        *self.counts.entry(name).or_default() += 1;
+    }
+
+    // How often a name was met.
+    fn met(&self, name: &str) -> u64 {
+        self.counts.get(name).copied().unwrap_or(0)
+    }
+
+    /// Prints the table.
+    pub fn print(&self) {
+        println!("{}", self.title);
+        for name in &self.names {
+            println!("  {name:<40}{:>8}", self.met(name));
+        }
+    }
+
+    /// Says which names were met too seldom.
+    pub fn shortfalls(&self) -> Vec<String> {
+        let mut short = Vec::new();
+        for name in &self.names {
+            need(&mut short, name, self.met(name), FEWEST_NAMED);
         }
         short
     }

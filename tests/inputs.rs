@@ -9,14 +9,15 @@ use std::collections::BTreeSet;
 
 use crate::reference::{
     Pack, HEADER_BITS, LIST_BITS, LIST_KIND, MOST_CELLS, MOST_ENTRIES, PAIRING_BITS, PAIRING_KIND,
+    SLIP_BITS, SLIP_KIND,
 };
 
 /// The largest cell number that 10 bits hold, and the largest points of 20 bits.
-const LARGEST_CELL: u64 = 1023;
-const LARGEST_POINTS: u64 = 1_048_575;
+pub const LARGEST_CELL: u64 = 1023;
+pub const LARGEST_POINTS: u64 = 1_048_575;
 /// The largest n that 11 bits hold, and the largest m of 13 bits.
 const LARGEST_N: u64 = 2047;
-const LARGEST_M: u64 = 8191;
+pub const LARGEST_M: u64 = 8191;
 /// Zero bits and kinds have four bits.
 const FOUR_BITS: u64 = 16;
 /// The fewest cells that have 4,096 pairs.
@@ -74,8 +75,8 @@ impl Random {
         (0..length).map(|_| self.below(256) as u8).collect()
     }
 
-    // Puts the items into a random order.
-    fn shuffle<T>(&mut self, items: &mut [T]) {
+    /// Puts the items into a random order.
+    pub fn shuffle<T>(&mut self, items: &mut [T]) {
         for end in (1..items.len()).rev() {
             let other = self.place(end + 1);
             items.swap(end, other);
@@ -85,10 +86,11 @@ impl Random {
 
 // Forms
 
-/// An entry's fields: cell a, cell b, then points or zero bits.
+/// An entry's fields: cell a, cell b, then points or zero bits; of a slip's
+/// step rule and cell, then nothing.
 pub type Entry = [u64; 3];
 
-/// A list or pairing before it is packed. `extra` is appended to its bytes,
+/// A list, slip or pairing before it is packed. `extra` is appended to its bytes,
 /// then only the first `keep` of them stay.
 #[derive(Clone)]
 pub struct Form {
@@ -121,6 +123,12 @@ impl Form {
     /// A store list of these entries.
     pub fn list(n: u64, entries: Vec<Entry>) -> Form {
         Form::new(LIST_KIND, n, LIST_BITS, entries)
+    }
+
+    /// A slip of these steps.
+    pub fn slip(n: u64, steps: Vec<Entry>) -> Form {
+        let [rule_bits, cell_bits] = SLIP_BITS;
+        Form::new(SLIP_KIND, n, [rule_bits, cell_bits, 0], steps)
     }
 
     /// A pairing of these entries.
@@ -279,8 +287,8 @@ fn add_random_pairs(random: &mut Random, pairs: &mut BTreeSet<(u64, u64)>, n: u6
     }
 }
 
-// Gives each pair its points: any, largest, zero, few, a single bit, or mixed.
-fn with_points(random: &mut Random, pairs: &[(u64, u64)]) -> Vec<Entry> {
+/// Gives each pair its points: any, largest, zero, few, a single bit, or mixed.
+pub fn with_points(random: &mut Random, pairs: &[(u64, u64)]) -> Vec<Entry> {
     let manner = random.below(7);
     pairs
         .iter()
@@ -341,8 +349,8 @@ fn spoil_list(random: &mut Random, list: &mut Form, number: u32) {
     }
 }
 
-// Fewer than 4 bytes, another kind, or a header zero bit.
-fn spoil_start(random: &mut Random, form: &mut Form) {
+/// Fewer than 4 bytes, another kind, or a header zero bit.
+pub fn spoil_start(random: &mut Random, form: &mut Form) {
     match random.below(4) {
         0 => form.keep = Some(random.place(4)),
         1 => form.kind ^= 1 << random.below(4),
@@ -383,8 +391,8 @@ fn spoil_sizes(random: &mut Random, list: &mut Form) {
     }
 }
 
-// Another m, or bytes too few or too many.
-fn spoil_length(random: &mut Random, form: &mut Form) {
+/// Another m, or bytes too few or too many.
+pub fn spoil_length(random: &mut Random, form: &mut Form) {
     let whole = form.whole_length();
     let entry = form.entry_bytes();
     match random.below(8) {
@@ -433,8 +441,8 @@ fn spoil_cells(random: &mut Random, list: &mut Form) {
     }
 }
 
-// The first place, the last or any.
-fn end_or_any_place(random: &mut Random, length: usize) -> usize {
+/// The first place, the last or any.
+pub fn end_or_any_place(random: &mut Random, length: usize) -> usize {
     match random.below(4) {
         0 => 0,
         1 => length.saturating_sub(1),
@@ -500,13 +508,13 @@ fn spoil_form(random: &mut Random, pairing: &mut Form, list: &Form) {
     }
 }
 
-// Another n: the next ones, one bit of it, or any.
-fn spoil_n(random: &mut Random, pairing: &mut Form) {
+/// Another n: the next ones, one bit of it, or any.
+pub fn spoil_n(random: &mut Random, form: &mut Form) {
     match random.below(4) {
-        0 => pairing.n += 1,
-        1 => pairing.n = pairing.n.saturating_sub(1),
-        2 => pairing.n ^= 1 << random.below(11),
-        _ => pairing.n = random.below(LARGEST_N + 1),
+        0 => form.n += 1,
+        1 => form.n = form.n.saturating_sub(1),
+        2 => form.n ^= 1 << random.below(11),
+        _ => form.n = random.below(LARGEST_N + 1),
     }
 }
 
@@ -672,8 +680,8 @@ fn flip_a_bit(random: &mut Random, bytes: &mut [u8]) {
     }
 }
 
-// Random bytes of random length, now and then behind a header that is right for n cells.
-fn random_file(random: &mut Random, whole: &Form) -> Vec<u8> {
+/// Random bytes of random length, now and then behind a header that is right for n cells.
+pub fn random_file(random: &mut Random, whole: &Form) -> Vec<u8> {
     let count = random.place(12);
     if random.once_in(2) {
         return bytes_between(random, 0, 64);
@@ -701,6 +709,15 @@ pub fn good_or_bad_list(random: &mut Random, mut list: Form) -> Vec<u8> {
         _ => return valid_pairing(random, &list).bytes(),
     }
     list.bytes()
+}
+
+/// The bytes of a list as it is, three times of four as `good_or_bad_list` has it.
+pub fn seldom_bad_list(random: &mut Random, list: Form) -> Vec<u8> {
+    if random.once_in(4) {
+        list.bytes()
+    } else {
+        good_or_bad_list(random, list)
+    }
 }
 
 // Spoils a list for so many of the refusals 2 to 6. The header comes last, so
@@ -739,8 +756,8 @@ pub fn good_or_bad_pairing(random: &mut Random, list: &Form) -> Vec<u8> {
     pairing.bytes()
 }
 
-// The bytes with one bit turned round, seldom two.
-fn with_bits_flipped(random: &mut Random, mut bytes: Vec<u8>) -> Vec<u8> {
+/// The bytes with one bit turned round, seldom two.
+pub fn with_bits_flipped(random: &mut Random, mut bytes: Vec<u8>) -> Vec<u8> {
     flip_a_bit(random, &mut bytes);
     if random.once_in(4) {
         flip_a_bit(random, &mut bytes);

@@ -1,5 +1,5 @@
-//! The memory that calls are lent: files and work buffers between guards,
-//! which are looked at again after the call.
+//! The memory that calls are lent: files, work buffers and outputs between
+//! guards, which are looked at again after the call.
 
 use std::hint::black_box;
 
@@ -9,6 +9,8 @@ use crate::reference::WORK_WORDS;
 /// The lengths of work buffers that are lent.
 pub const WORK_LENGTHS: [usize; 4] = [0, WORK_WORDS - 1, WORK_WORDS, LONGEST_WORK];
 const LONGEST_WORK: usize = 9000;
+/// The most room lent beyond a file; it is more than the longest file has.
+const LONGEST_ROOM: usize = 40_000;
 /// Words before, between and after the work buffers that no call may touch.
 const GUARD_WORDS: usize = 24;
 
@@ -151,4 +153,101 @@ pub fn work_lengths(random: &mut Random) -> [usize; 2] {
         lengths[random.place(lengths.len())],
         lengths[random.place(lengths.len())],
     ]
+}
+
+/// The outputs of a call in one piece of memory, dirty, with random bytes
+/// before, between and after them: as many as the file has and some more, so
+/// that a call which takes a short output for a long one is found out.
+pub struct Outputs {
+    bytes: Vec<u8>,
+    before: Vec<u8>,
+    places: Vec<(usize, usize)>,
+}
+
+impl Outputs {
+    /// Lays out an output of so much room for each file of so many bytes.
+    pub fn new(random: &mut Random, room: &[usize], lengths: &[usize]) -> Outputs {
+        let mut bytes = random_guard(random);
+        let mut places = Vec::new();
+        for (&room, &length) in room.iter().zip(lengths) {
+            places.push((bytes.len(), bytes.len() + room));
+            bytes.extend(dirty_bytes(random, room));
+            bytes.extend(random.bytes(length));
+            bytes.extend(random_guard(random));
+        }
+        Outputs {
+            before: bytes.clone(),
+            bytes,
+            places,
+        }
+    }
+
+    /// The outputs, to be lent.
+    pub fn buffers(&mut self) -> Vec<&mut [u8]> {
+        let mut buffers = Vec::new();
+        let mut rest = &mut self.bytes[..];
+        let mut passed = 0;
+        for &(start, end) in &self.places {
+            let (buffer, after) = rest[start - passed..].split_at_mut(end - start);
+            buffers.push(buffer);
+            rest = after;
+            passed = end;
+        }
+        buffers
+    }
+
+    /// Says if an output does not start with its file, or any other byte is not
+    /// what it was. Nothing is written where there are no files.
+    pub fn differences(&self, files: &[Vec<u8>], wrong: &mut Vec<String>) {
+        let mut expected = self.before.clone();
+        for (file, &(start, _)) in files.iter().zip(&self.places) {
+            expected[start..start + file.len()].copy_from_slice(file);
+        }
+        let bytes = black_box(&self.bytes);
+        if let Some(place) = (0..bytes.len()).find(|&place| bytes[place] != expected[place]) {
+            wrong.push(format!(
+                "{} is {:02X} and not {:02X}; before the call {:02X}",
+                self.name_of(place),
+                bytes[place],
+                expected[place],
+                self.before[place]
+            ));
+        }
+    }
+
+    // What lies at a place of the outputs' memory.
+    fn name_of(&self, place: usize) -> String {
+        let within = |&(start, end): &(usize, usize)| start <= place && place < end;
+        match self.places.iter().position(within) {
+            Some(output) => format!("byte {} of output {output}", place - self.places[output].0),
+            None => format!("byte {place}, round the outputs,"),
+        }
+    }
+}
+
+// Random bytes most often, else all zero or all ones.
+fn dirty_bytes(random: &mut Random, length: usize) -> Vec<u8> {
+    match random.below(6) {
+        0 => vec![0; length],
+        1 => vec![u8::MAX; length],
+        _ => random.bytes(length),
+    }
+}
+
+/// The room lent for a file of so many bytes: enough most often, exactly or
+/// with more; else one byte too few, none, or fewer than the file has.
+pub fn room(random: &mut Random, length: usize) -> usize {
+    match random.below(24) {
+        0 => length - 1,
+        1 => 0,
+        2 | 3 => random.place(length),
+        4..=11 => length,
+        12..=20 => length + 1 + random.place(24),
+        _ => length + random.place(LONGEST_ROOM),
+    }
+}
+
+/// Bytes in hexadecimal, two digits each.
+pub fn hexadecimal(bytes: &[u8]) -> String {
+    bytes.iter().map(|byte| format!("{byte:02X}")).collect()
 }

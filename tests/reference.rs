@@ -1,28 +1,39 @@
 //! The independent implementation: files, refusals and calls, written to be
 //! read and not to be fast. Files are read bit by bit, membership is a map,
-//! a cell that stands twice is found with a set.
+//! a cell that stands twice is found with a set. The working graph and its
+//! steps are in graph.rs.
 //!
 //! In order: bits, files, refusals, calls. A new call adds its inputs to
 //! `Input`, its refusals to `holds` and its own function at the end.
 
 use std::collections::{BTreeMap, BTreeSet};
 
+use crate::graph::{self, Graph, Left, Named, CHAIN, LEAF};
+
 pub const WORK_WORDS: usize = 8192;
 pub const MOST_CELLS: u64 = 1024;
 pub const MOST_ENTRIES: u64 = 4096;
 
 pub const LIST_KIND: u64 = 1;
+pub const SHORT_LIST_KIND: u64 = 2;
+pub const SLIP_KIND: u64 = 3;
 pub const PAIRING_KIND: u64 = 4;
 
 /// The bits of the header's fields: kind, cells n, count m, zero bits.
 pub const HEADER_BITS: [usize; 4] = [4, 11, 13, 4];
 /// The bits of a store list's entry: cell a, cell b, points.
 pub const LIST_BITS: [usize; 3] = [10, 10, 20];
+/// The bits of a short list's carried points and of its entry: cell a, cell b, points.
+pub const CARRIED_BITS: [usize; 1] = [64];
+pub const SHORT_LIST_BITS: [usize; 3] = [10, 10, 44];
+/// The bits of a slip's step: rule, cell.
+pub const SLIP_BITS: [usize; 2] = [6, 10];
 /// The bits of a pairing's entry: cell a, cell b, zero bits.
 pub const PAIRING_BITS: [usize; 3] = [10, 10, 4];
 
 const HEADER_BYTES: usize = 4;
 const LIST_ENTRY_BYTES: u64 = 5;
+const SLIP_STEP_BYTES: u64 = 2;
 const PAIRING_ENTRY_BYTES: u64 = 3;
 const LAST_REFUSAL: u32 = 12;
 
@@ -154,6 +165,52 @@ impl List {
     }
 }
 
+/// A slip as it lies in its bytes, read like `List`.
+struct Slip {
+    length: usize,
+    header: Option<Header>,
+    steps: Vec<Named>,
+}
+
+impl Slip {
+    // Reads the header, then steps until the bytes end.
+    fn read(bytes: &[u8]) -> Slip {
+        let mut bits = Bits::new(bytes);
+        let header = Header::read(&mut bits);
+        let mut steps = Vec::new();
+        while let Some([rule, cell]) = bits.fields(SLIP_BITS) {
+            steps.push(Named::new(rule, cell));
+        }
+        Slip {
+            length: bytes.len(),
+            header,
+            steps,
+        }
+    }
+}
+
+/// The bytes of a slip for a list of n cells.
+pub fn slip_file(n: u64, steps: &[Named]) -> Vec<u8> {
+    let mut pack = Pack::default();
+    pack.fields([SLIP_KIND, n, steps.len() as u64, 0], HEADER_BITS);
+    for step in steps {
+        pack.fields([step.rule, step.cell], SLIP_BITS);
+    }
+    pack.bytes()
+}
+
+/// The bytes of a short list for a list of n cells: the carried points, then
+/// the pairs with their points, in the order of a list.
+pub fn short_list_file(n: u64, carried: u64, pairs: &[(Pair, u64)]) -> Vec<u8> {
+    let mut pack = Pack::default();
+    pack.fields([SHORT_LIST_KIND, n, pairs.len() as u64, 0], HEADER_BITS);
+    pack.fields([carried], CARRIED_BITS);
+    for &((a, b), points) in pairs {
+        pack.fields([a, b, points], SHORT_LIST_BITS);
+    }
+    pack.bytes()
+}
+
 /// One entry of a pairing.
 struct PairingEntry {
     a: u64,
@@ -187,13 +244,24 @@ impl Pairing {
 
 // Refusals
 
-/// What a call is given. A call without a pairing has none here; `graph` is
-/// what the pairing is for, each pair with its points there.
-struct Input {
+/// What a call is given. A call without a slip or a pairing has none here;
+/// `graph` is what the pairing is for, each pair with its points there.
+///
+/// A call that writes files also has what comes of its list: the steps of its
+/// slip or of reduce, the place of the first step that is not allowed, the
+/// files it writes and the room that is lent for each. Where an earlier
+/// refusal holds, they are what comes of the entries and steps that can be
+/// read, up to the first step that is not allowed; no answer depends on them then.
+pub struct Input {
     work: [usize; 2],
     list: List,
+    slip: Option<Slip>,
     pairing: Option<Pairing>,
     graph: BTreeMap<Pair, u64>,
+    pub steps: Vec<Named>,
+    pub bad_step: Option<usize>,
+    files: Vec<Vec<u8>>,
+    room: Vec<usize>,
 }
 
 // Refusal 2: shorter than 4 bytes, kind not 1, or a header zero bit set.
@@ -248,6 +316,19 @@ fn list_order_is_wrong(list: &List) -> bool {
         .any(|two| (two[0].a, two[0].b) >= (two[1].a, two[1].b))
 }
 
+// Refusal 7: shorter than 4 bytes, wrong kind, n, length or zero bits, or a rule not 1 to 3.
+fn slip_form_is_wrong(slip: &Slip, list: &List) -> bool {
+    let (Some(header), Some(list_header)) = (&slip.header, &list.header) else {
+        return true;
+    };
+    let is_a_rule = |rule| (LEAF..=CHAIN).contains(&rule);
+    header.kind != SLIP_KIND
+        || header.n != list_header.n
+        || header.zero != 0
+        || !length_fits(slip.length, header.m, SLIP_STEP_BYTES)
+        || slip.steps.iter().any(|step| !is_a_rule(step.rule))
+}
+
 // Refusal 9: shorter than 4 bytes, or wrong kind, n, length, zero bits, cells or order.
 fn pairing_form_is_wrong(pairing: &Pairing, list: &List) -> bool {
     let (Some(header), Some(list_header)) = (&pairing.header, &list.header) else {
@@ -287,6 +368,11 @@ fn holds(number: u32, input: &Input) -> bool {
         4 => list_length_is_wrong(&input.list),
         5 => list_cell_is_wrong(&input.list),
         6 => list_order_is_wrong(&input.list),
+        7 => input
+            .slip
+            .as_ref()
+            .is_some_and(|slip| slip_form_is_wrong(slip, &input.list)),
+        8 => input.bad_step.is_some(),
         9 => input
             .pairing
             .as_ref()
@@ -295,6 +381,7 @@ fn holds(number: u32, input: &Input) -> bool {
             .pairing
             .as_ref()
             .is_some_and(|pairing| pairing_is_none_of(pairing, &input.graph)),
+        12 => (input.files.iter().zip(&input.room)).any(|(file, &room)| room < file.len()),
         _ => false,
     }
 }
@@ -308,14 +395,11 @@ fn first_refusal(input: &Input) -> Option<u32> {
 
 // What weighing is given: its graph is the list's entries.
 fn weigh_input(list: &[u8], pairing: &[u8], work_a_len: usize, work_b_len: usize) -> Input {
-    let list = List::read(list);
-    let graph = list.points();
-    Input {
-        work: [work_a_len, work_b_len],
-        list,
-        pairing: Some(Pairing::read(pairing)),
-        graph,
-    }
+    let mut input = Input::over(list);
+    input.work = [work_a_len, work_b_len];
+    input.pairing = Some(Pairing::read(pairing));
+    input.graph = input.list.points();
+    input
 }
 
 /// Weighs a pairing of the list: its points, or the number of the first refusal.
@@ -343,8 +427,92 @@ pub fn weigh_refusals(
     work_a_len: usize,
     work_b_len: usize,
 ) -> Vec<u32> {
-    let input = weigh_input(list, pairing, work_a_len, work_b_len);
-    (1..=LAST_REFUSAL)
-        .filter(|&number| holds(number, &input))
-        .collect()
+    weigh_input(list, pairing, work_a_len, work_b_len).refusals()
+}
+
+/// What a call that writes files answers: the files, or the number of the first refusal.
+pub type Answer = Result<Vec<Vec<u8>>, u32>;
+
+impl Input {
+    // What a call over a list is given, with nothing lent yet and no files.
+    fn over(list: &[u8]) -> Input {
+        Input {
+            work: [0; 2],
+            list: List::read(list),
+            slip: None,
+            pairing: None,
+            graph: BTreeMap::new(),
+            steps: Vec::new(),
+            bad_step: None,
+            files: Vec::new(),
+            room: Vec::new(),
+        }
+    }
+
+    /// What replay is given; it writes the short list.
+    pub fn replay(list: &[u8], slip: &[u8]) -> Input {
+        let mut input = Input::over(list);
+        let slip = Slip::read(slip);
+        input.steps = slip.steps.clone();
+        input.slip = Some(slip);
+        let (left, bad_step) = graph::replay(input.working_graph(), &input.steps);
+        input.bad_step = bad_step;
+        input.files = vec![input.short_list(&left)];
+        input
+    }
+
+    /// What reduce is given; it writes the slip and the short list.
+    pub fn reduce(list: &[u8]) -> Input {
+        let mut input = Input::over(list);
+        let (left, steps) = graph::reduce(input.working_graph());
+        input.files = vec![slip_file(input.n(), &steps), input.short_list(&left)];
+        input.steps = steps;
+        input
+    }
+
+    /// The list's working graph.
+    pub fn working_graph(&self) -> Graph {
+        Graph::new(self.list.points())
+    }
+
+    /// Whether the call is given a slip.
+    pub fn is_replay(&self) -> bool {
+        self.slip.is_some()
+    }
+
+    /// The list's n, zero if it has no header.
+    pub fn n(&self) -> u64 {
+        self.list.header.as_ref().map_or(0, |header| header.n)
+    }
+
+    // The short list of what is left.
+    fn short_list(&self, left: &Left) -> Vec<u8> {
+        short_list_file(self.n(), left.carried, &left.graph.pairs())
+    }
+
+    /// The length of each file that the call writes.
+    pub fn lengths(&self) -> Vec<usize> {
+        self.files.iter().map(Vec::len).collect()
+    }
+
+    /// Lends work buffers of these lengths and so much room for each file.
+    pub fn lend(&mut self, work: [usize; 2], room: &[usize]) {
+        self.work = work;
+        self.room = room.to_vec();
+    }
+
+    /// The files that the call writes, or the number of the first refusal.
+    pub fn answer(&self) -> Answer {
+        match first_refusal(self) {
+            Some(number) => Err(number),
+            None => Ok(self.files.clone()),
+        }
+    }
+
+    /// Every refusal that holds, each looked at by itself over what can be read.
+    pub fn refusals(&self) -> Vec<u32> {
+        (1..=LAST_REFUSAL)
+            .filter(|&number| holds(number, self))
+            .collect()
+    }
 }

@@ -5,7 +5,7 @@ use std::process::exit;
 
 use crate::counts::Counts;
 use crate::inputs::{self, Entry, Form, Random};
-use crate::lent::{self, Files, Work, WORK_LENGTHS};
+use crate::lent::{self, hexadecimal, Files, Work, WORK_LENGTHS};
 use crate::reference::{self, WORK_WORDS};
 
 /// The refusals that weighing has.
@@ -336,11 +336,6 @@ fn report(name: &str, input: &Input, expected: Result<u64, u32>, wrong: &[String
     }
     println!("FAIL");
     exit(1)
-}
-
-// Bytes in hexadecimal, two digits each.
-fn hexadecimal(bytes: &[u8]) -> String {
-    bytes.iter().map(|byte| format!("{byte:02X}")).collect()
 }
 
 // The whole run

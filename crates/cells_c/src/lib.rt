@@ -1,9 +1,13 @@
 // The calls for C: include/cells.h declares them. Every slice is a pointer and a length; each call answers 0 or the
 // refusal's number, and on refusal leaves the numbers that it would answer unchanged.
 use cellfile::Weighed;
+use reduction::Reduced;
+use reduction::Replayed;
 ghost use mathlib.Core.Path.{_≡_};
+ghost use lib.ListN.{length};
 ghost use Rattle.cellfile.specs.Files.{lent, Cleared};
 ghost use Rattle.cellfile.specs.Weigh.{weighing};
+ghost use Rattle.reduction.specs.Calls.{written, replaying, reducing, replayShort, slipFile, shortFile, reduceSteps};
 ghost use Rattle.cells_c.specs.Numbers.{valueOr};
 
 #[no_mangle]
@@ -25,6 +29,74 @@ pub extern "C" fn cells_weigh(
         Weighed::Refused(k) => k,
         Weighed::Points(p) => {
             *points = p;
+            0
+        }
+    }
+}
+
+#[no_mangle]
+pub extern "C" fn cells_replay(
+    list: &[u8],
+    slip: &[u8],
+    work_a: &mut [u64],
+    work_b: &mut [u64],
+    short: &mut [u8],
+    short_len: &mut u64,
+) -> u32
+    ensures answer { λ r. ⌜ r ≡ replaying (now (list .entry)) (now (slip .entry))
+        (lent (now («work_a» .entry)) (now («work_b» .entry))) (length (now (short .entry))) .0 ⌝ }
+    ensures values { λ _. ⌜ now («short_len» .exit) ≡ valueOr 0 (now («short_len» .entry))
+        (replaying (now (list .entry)) (now (slip .entry))
+        (lent (now («work_a» .entry)) (now («work_b» .entry))) (length (now (short .entry)))) ⌝ }
+    ensures output { λ _. ⌜ now (short .exit) ≡ written (replaying (now (list .entry)) (now (slip .entry))
+        (lent (now («work_a» .entry)) (now («work_b» .entry))) (length (now (short .entry))) .0)
+        (replayShort (now (list .entry)) (now (slip .entry))) (now (short .entry)) ⌝ }
+    ensures cleared { λ _. ⌜ Cleared (now («work_a» .entry)) (now («work_a» .exit))
+        × Cleared (now («work_b» .entry)) (now («work_b» .exit)) ⌝ }
+{
+    match reduction::replay(list, slip, work_a, work_b, short) {
+        Replayed::Refused(k) => k,
+        Replayed::Length(m) => {
+            *short_len = m as u64;
+            0
+        }
+    }
+}
+
+#[no_mangle]
+pub extern "C" fn cells_reduce(
+    list: &[u8],
+    work_a: &mut [u64],
+    work_b: &mut [u64],
+    slip: &mut [u8],
+    short: &mut [u8],
+    slip_len: &mut u64,
+    short_len: &mut u64,
+) -> u32
+    ensures answer { λ r. ⌜ r ≡ reducing (now (list .entry)) (lent (now («work_a» .entry)) (now («work_b» .entry)))
+        (length (now (slip .entry))) (length (now (short .entry))) .0 ⌝ }
+    ensures values { λ _. ⌜ (now («slip_len» .exit) ≡ valueOr 0 (now («slip_len» .entry))
+        (reducing (now (list .entry)) (lent (now («work_a» .entry)) (now («work_b» .entry)))
+        (length (now (slip .entry))) (length (now (short .entry)))))
+        × (now («short_len» .exit) ≡ valueOr 1 (now («short_len» .entry))
+        (reducing (now (list .entry)) (lent (now («work_a» .entry)) (now («work_b» .entry)))
+        (length (now (slip .entry))) (length (now (short .entry))))) ⌝ }
+    ensures outputs { λ _. ⌜ (now (slip .exit) ≡ written (reducing (now (list .entry))
+        (lent (now («work_a» .entry)) (now («work_b» .entry)))
+        (length (now (slip .entry))) (length (now (short .entry))) .0)
+        (slipFile (now (list .entry)) (reduceSteps (now (list .entry)))) (now (slip .entry)))
+        × (now (short .exit) ≡ written (reducing (now (list .entry))
+        (lent (now («work_a» .entry)) (now («work_b» .entry)))
+        (length (now (slip .entry))) (length (now (short .entry))) .0)
+        (shortFile (now (list .entry)) (reduceSteps (now (list .entry)))) (now (short .entry))) ⌝ }
+    ensures cleared { λ _. ⌜ Cleared (now («work_a» .entry)) (now («work_a» .exit))
+        × Cleared (now («work_b» .entry)) (now («work_b» .exit)) ⌝ }
+{
+    match reduction::reduce(list, work_a, work_b, slip, short) {
+        Reduced::Refused(k) => k,
+        Reduced::Lengths { slip: m, short: k } => {
+            *slip_len = m as u64;
+            *short_len = k as u64;
             0
         }
     }

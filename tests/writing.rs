@@ -1,0 +1,261 @@
+//! The comparison of the calls that write files, replay and reduce: worked
+//! rows, random calls, and the check of one call against the reference.
+
+use std::ops::Range;
+use std::process::exit;
+use std::time::{Duration, Instant};
+
+use crate::cases;
+use crate::counts::{Counts, Tally};
+use crate::inputs::Random;
+use crate::lent::{self, Files, Outputs, Work};
+use crate::reference::{Answer, Input};
+use crate::rows::Row;
+use crate::shapes::FAMILIES;
+
+/// A call that writes files.
+pub trait Call {
+    const NAME: &'static str;
+    const REFUSALS: &'static [u32];
+    /// The cases that must be met, beside those of both calls.
+    const CASES: &'static [&'static str];
+
+    /// The worked rows.
+    fn rows() -> Vec<Row>;
+    /// Files for a random call, good or bad, and the family of their list.
+    fn files(random: &mut Random) -> (&'static str, Vec<Vec<u8>>);
+    /// The reference over these files.
+    fn input(files: &[Vec<u8>]) -> Input;
+    /// Makes the call: 0 with a length for each output, or the refusal's number.
+    fn call(
+        files: &Files,
+        work: (&mut [u64], &mut [u64]),
+        outputs: Vec<&mut [u8]>,
+        lengths: &mut [u64],
+    ) -> u32;
+}
+
+/// What one call is given, the words of the work buffers and outputs apart.
+struct Given {
+    name: String,
+    files: Vec<Vec<u8>>,
+    work: [usize; 2],
+    room: Vec<usize>,
+}
+
+// The numbers that a call answers
+
+/// The lengths that a call writes, with a word before, between and after them.
+struct Lengths {
+    words: Vec<u64>,
+    before: Vec<u64>,
+}
+
+impl Lengths {
+    // Random words, one for each length and one round each.
+    fn new(random: &mut Random, count: usize) -> Lengths {
+        let words: Vec<u64> = (0..2 * count + 1).map(|_| random.word()).collect();
+        Lengths {
+            before: words.clone(),
+            words,
+        }
+    }
+
+    // Says if a length is not that of its file, or any other word not what it was.
+    fn differences(&self, files: &[Vec<u8>], wrong: &mut Vec<String>) {
+        let mut expected = self.before.clone();
+        for (place, file) in files.iter().enumerate() {
+            expected[2 * place + 1] = file.len() as u64;
+        }
+        if self.words != expected {
+            wrong.push(format!(
+                "the lengths, with the words round them, are {:?} and not {expected:?}",
+                self.words
+            ));
+        }
+    }
+}
+
+// The comparison
+
+/// What was met of a call so far, and the time spent in it.
+pub struct Comparison<C: Call> {
+    counts: Counts,
+    families: Tally,
+    accepted_families: Tally,
+    cases: Tally,
+    steps: usize,
+    most_steps: usize,
+    time: Duration,
+    call: std::marker::PhantomData<C>,
+}
+
+impl<C: Call> Comparison<C> {
+    // Nothing met yet.
+    fn new() -> Self {
+        let names = [&cases::OF_BOTH[..], C::CASES].concat();
+        Comparison {
+            counts: Counts::new(C::REFUSALS),
+            families: Tally::new("calls by family of the list", &FAMILIES),
+            accepted_families: Tally::new("accepted calls by family", &FAMILIES),
+            cases: Tally::new("special cases", &names),
+            steps: 0,
+            most_steps: 0,
+            time: Duration::ZERO,
+            call: std::marker::PhantomData,
+        }
+    }
+
+    /// Compares the worked rows, then the random calls of these numbers; ends at
+    /// the first difference.
+    pub fn run(seed: u64, calls: Range<u64>) -> Self {
+        let mut comparison = Self::new();
+        comparison.run_worked_rows(seed);
+        comparison.run_random_calls(seed, calls);
+        comparison
+    }
+
+    // Compares the worked rows, with their own answers.
+    fn run_worked_rows(&mut self, seed: u64) {
+        let mut random = Random::new(seed);
+        for row in C::rows() {
+            let given = Given {
+                name: row.name,
+                files: row.files,
+                work: row.work,
+                room: row.room,
+            };
+            let mut input = C::input(&given.files);
+            input.lend(given.work, &given.room);
+            self.run_call(&mut random, &given, &input, &row.answer);
+        }
+    }
+
+    // Compares random calls, each made from the seed and its own number.
+    fn run_random_calls(&mut self, seed: u64, calls: Range<u64>) {
+        for call in calls {
+            let mut random = Random::new(Random::new(seed ^ call.rotate_left(32)).word());
+            let (family, files) = C::files(&mut random);
+            let mut input = C::input(&files);
+            let work = lent::work_lengths(&mut random);
+            let lengths = input.lengths();
+            let room = lengths
+                .iter()
+                .map(|&length| lent::room(&mut random, length));
+            let given = Given {
+                name: format!("random call {call} of seed {seed}, {family}"),
+                room: room.collect(),
+                files,
+                work,
+            };
+            input.lend(given.work, &given.room);
+            let answer = input.answer();
+            self.run_call(&mut random, &given, &input, &answer);
+            self.families.meet(family);
+            if answer.is_ok() {
+                self.accepted_families.meet(family);
+            }
+        }
+    }
+
+    // Compares one call and counts it.
+    fn run_call(&mut self, random: &mut Random, given: &Given, input: &Input, answer: &Answer) {
+        let wrong = self.compare(random, given, input, answer);
+        if !wrong.is_empty() {
+            report::<C>(given, answer, &wrong);
+        }
+        match answer {
+            Ok(_) => self.counts.accept(given.work),
+            Err(number) => self.counts.refuse(given.work, *number, &input.refusals()),
+        }
+        for case in cases::cases(input, given.work, &given.room, answer) {
+            self.cases.meet(case);
+        }
+        if answer.is_ok() {
+            self.steps += input.steps.len();
+            self.most_steps = self.most_steps.max(input.steps.len());
+        }
+    }
+
+    // Makes one call and says all that is wrong about it.
+    fn compare(
+        &mut self,
+        random: &mut Random,
+        given: &Given,
+        input: &Input,
+        answer: &Answer,
+    ) -> Vec<String> {
+        let files: Vec<&[u8]> = given.files.iter().map(Vec::as_slice).collect();
+        let files = Files::new(random, &files);
+        let mut work = Work::new(random, given.work);
+        let mut outputs = Outputs::new(random, &given.room, &input.lengths());
+        let mut lengths = Lengths::new(random, given.room.len());
+
+        let start = Instant::now();
+        let number = C::call(
+            &files,
+            work.buffers(),
+            outputs.buffers(),
+            &mut lengths.words,
+        );
+        self.time += start.elapsed();
+
+        let (expected, written) = match answer {
+            Ok(written) => (0, &written[..]),
+            Err(number) => (*number, &[][..]),
+        };
+        let mut wrong = Vec::new();
+        if number != expected {
+            wrong.push(format!("the answer is {number} and not {expected}"));
+        }
+        lengths.differences(written, &mut wrong);
+        outputs.differences(written, &mut wrong);
+        files.differences(&mut wrong);
+        work.differences(&mut wrong);
+        wrong
+    }
+
+    /// Prints the tables and the sums, and says what was met too seldom.
+    pub fn print(&self) -> Vec<String> {
+        println!("{}", C::NAME);
+        self.counts.print();
+        self.families.print();
+        self.accepted_families.print();
+        self.cases.print();
+        println!(
+            "steps of accepted calls {}, most in one {}",
+            self.steps, self.most_steps
+        );
+        println!("seconds in the calls {:.2}", self.time.as_secs_f64());
+        let mut short = self.counts.shortfalls();
+        short.extend(self.accepted_families.shortfalls());
+        short.extend(self.cases.shortfalls());
+        short
+            .iter()
+            .map(|line| format!("{}: {line}", C::NAME))
+            .collect()
+    }
+}
+
+// Prints a call that went wrong, whole, and ends the comparison.
+fn report<C: Call>(given: &Given, answer: &Answer, wrong: &[String]) -> ! {
+    println!("MISMATCH in {}, {}", C::NAME, given.name);
+    for (place, file) in given.files.iter().enumerate() {
+        println!("file {place}: {}", lent::hexadecimal(file));
+    }
+    println!("work buffers: {:?} words", given.work);
+    println!("outputs: {:?} bytes", given.room);
+    match answer {
+        Ok(files) => {
+            for (place, file) in files.iter().enumerate() {
+                println!("expected output {place}: {}", lent::hexadecimal(file));
+            }
+        }
+        Err(number) => println!("expected: refusal {number}"),
+    }
+    for line in wrong {
+        println!("came: {line}");
+    }
+    println!("FAIL");
+    exit(1)
+}
