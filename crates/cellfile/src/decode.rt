@@ -60,7 +60,7 @@ fn wide(x: u8) -> u64
     x as u64
 }
 
-fn byte_at(s: &[u8], i: usize) -> u64
+pub fn byte_at(s: &[u8], i: usize) -> u64
     ensures { λ r. ⌜ (r ≡ getD (now (s .entry)) i 0) × (r < 256) ⌝ }
 {
     if i < s.len() {

@@ -1,6 +1,9 @@
 // The worked lists that are compared by running the calls: those that concern sizes, each weighed with the empty
-// pairing.
+// pairing; a list that no step shortens, reduced; a list whose points outgrow 20 bits, replayed.
 use cellfile::Weighed;
+use cellfile::decode::byte_at;
+use reduction::Reduced;
+use reduction::Replayed;
 ghost use mathlib.Core.Path.{_≡_};
 ghost use Prim.Native.Nat.{_+_, _*_, _≤_};
 ghost use lib.ListN.{length};
@@ -51,6 +54,59 @@ fn show_large(name: &[u8], m: usize, last: u8, list: &mut [u8])
     show(name, &list[0..end], b"\x48\x00\x00\x00");
 }
 
+// Reduces the list and writes the numbers of steps and of pairs left.
+fn show_reduced(name: &[u8], list: &[u8]) {
+    let mut work_a = [0u64; 8192];
+    let mut work_b = [0u64; 8192];
+    let mut slip = [0u8; 64];
+    let mut short = [0u8; 64];
+    match reduction::reduce(list, &mut work_a, &mut work_b, &mut slip, &mut short) {
+        Reduced::Refused(k) => line(name, b"refused ", k as u64),
+        Reduced::Lengths { slip: m, short: k } => {
+            line(name, b"bytes of the slip ", m as u64);
+            line(name, b"bytes of the short list ", k as u64);
+        }
+    }
+}
+
+// Writes the entry of a short list that starts at place i: a-b:points.
+fn entry(short: &[u8], i: usize)
+    requires { ⌜ i ≤ 1024 ⌝ }
+{
+    let b1 = byte_at(short, i + 1);
+    let b2 = byte_at(short, i + 2);
+    let high = b2 % 16 * 1099511627776 + byte_at(short, i + 3) * 4294967296;
+    let low = byte_at(short, i + 4) * 16777216 + byte_at(short, i + 5) * 65536;
+    io::write_all(1, b" ");
+    io::print_decimal(1, byte_at(short, i) * 4 + b1 / 64);
+    io::write_all(1, b"-");
+    io::print_decimal(1, b1 % 64 * 16 + b2 / 16);
+    io::write_all(1, b":");
+    io::print_decimal(
+        1,
+        high + low + byte_at(short, i + 6) * 256 + byte_at(short, i + 7),
+    );
+}
+
+// Replays the slip on the list, which leaves three pairs, and writes them.
+fn show_replayed(name: &[u8], list: &[u8], slip: &[u8]) {
+    let mut work_a = [0u64; 8192];
+    let mut work_b = [0u64; 8192];
+    let mut short = [0u8; 64];
+    match reduction::replay(list, slip, &mut work_a, &mut work_b, &mut short) {
+        Replayed::Refused(k) => line(name, b"refused ", k as u64),
+        Replayed::Length(k) => {
+            line(name, b"bytes of the short list ", k as u64);
+            io::write_all(1, name);
+            io::write_all(1, b"short");
+            entry(&short, 12);
+            entry(&short, 20);
+            entry(&short, 28);
+            io::write_all(1, b"\n");
+        }
+    }
+}
+
 fn main() {
     show(
         b"n 1024, cell 1023: ",
@@ -71,4 +127,13 @@ fn main() {
     show_large(b"m 4096: ", 4096, 0x00, &mut list);
     let mut longer = [0u8; 20489];
     show_large(b"m 4097: ", 4097, 0x10, &mut longer);
+    show_reduced(
+        b"all six pairs of four cells, one point each: ",
+        b"\x10\x08\x00\x60\x00\x00\x10\x00\x01\x00\x00\x20\x00\x01\x00\x00\x30\x00\x01\x00\x40\x20\x00\x01\x00\x40\x30\x00\x01\x00\x80\x30\x00\x01",
+    );
+    show_replayed(
+        b"0-1:1048575, 1-2:1, 2-3:1048575, chain 1: ",
+        b"\x10\x08\x00\x30\x00\x00\x1F\xFF\xFF\x00\x40\x20\x00\x01\x00\x80\x3F\xFF\xFF",
+        b"\x30\x08\x00\x10\x0C\x01",
+    );
 }
