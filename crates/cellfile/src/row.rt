@@ -34,7 +34,7 @@ fn points_of(x: u64) -> u64
     x % POINTS_UNIT
 }
 
-fn larger(a: u64, b: u64) -> u64
+pub fn larger(a: u64, b: u64) -> u64
     ensures { λ r. ⌜ r ≡ max a b ⌝ }
 {
     if a < b { b } else { a }

@@ -1,23 +1,23 @@
 -- The course of steps on an accepted list. In order: without more steps it is what the slip's names name
--- (`course-replay`); an accepted list is a graph of its cells (`list-graph`) whose points, with what is carried, have 44
--- bits after any steps that are allowed (`left-small`); so the loop may run on it (`run-there`), and what the steps
--- leave may be written (`left-there`); their cells have 10 bits (`steps-below`). Assumes nothing.
-use mathlib.Core.Path.{_≡_, refl, ap, subst}
-use mathlib.Core.Logic.{inl, inr}
-use mathlib.Core.Bool.{Bool, true, false}
+-- (`course-replay`); the cells of steps that stand; what has passed the list's check (`list-there`); an accepted list
+-- is a graph of its cells (`list-graph`) whose points, with what is carried, have 44 bits after any steps that are
+-- allowed (`left-small`); so the loop may run on it (`run-there`), and what the steps leave may be written
+-- (`left-there`); they are at most 1,024 (`steps-few`), with cells of 10 bits (`steps-below`). Assumes nothing.
+use mathlib.Core.Path.{_≡_, refl, ap}
+use mathlib.Core.Bool.{Bool}
 use mathlib.Core.List.{List, [], _∷_, map}
 use mathlib.Core.Option.{Option, some, none}
 use Prim.Native.Nat.{ℕ, zero, suc, _+_, _*_, _^_, _≤_, _<_}
 use native.Mathlib.Omega.{arith}
 use lib.ListN.{length, drop, length-map}
-use Rattle.matching.specs.Lists.{mem, All}
+use Rattle.matching.specs.Lists.{All}
 use Rattle.matching.specs.Pairs.{Points, Each}
 use Rattle.matching.specs.Best.{walk}
 use Rattle.matching.specs.Listed.{Entry}
 use Rattle.matching.specs.Graph.{Graph}
 use Rattle.matching.specs.Steps.{Rule, Step, leaf, ring, chain, apply, name}
 use Rattle.matching.specs.Find.{stepAt}
-use Rattle.matching.specs.Slip.{replay, left, carried, reduce}
+use Rattle.matching.specs.Slip.{replay, left, carried}
 use Rattle.matching.proofs.Tests.{Test, pass, fail, ltT}
 use Rattle.matching.proofs.Alls.{all-mem}
 use Rattle.matching.proofs.Entries.{listed-graph}
@@ -87,10 +87,10 @@ stands-below l g (s ∷ ss) f =
 -- From the answer of the list's check.
 pub list-there : {list : List ℕ} {n m : ℕ} {w1 w2 : List ℕ}
     → (0, n ∷ m ∷ []) ≡ answer (first (listRows storeList list)) (cellsOf list ∷ countOf list ∷ [])
-    → 8192 ≤ length w1 → 8192 ≤ length w2 → ListThere list n m w1 w2
+    → 8192 ≤ length w1 → 8192 ≤ length w2 → ListThere list m w1 w2 × (n ≡ cellsOf list)
 list-there {list} e r1 r2 =
     let a = passed list e in
-    record { accepted = a .0; cells = a .1; count = a .2; room1 = r1; room2 = r2 }
+    (record { accepted = a .0; count = a .2; room1 = r1; room2 = r2 }, a .1)
 
 points-fit : (m : ℕ) (s : List ℕ)
     → All (λ (e : Entry). e .2 < 2 ^ 20) (map asEntry (readRecords (storeList .entry) m s))
@@ -134,7 +134,7 @@ module _ (list : List ℕ) (h : first (listRows storeList list) ≡ 0) where
   module _ (rs : List (Rule × ℕ)) (ss : List Step) (allowed : replay (cellsOf list) (graphIn list) rs ≡ some ss) where
     pub left-there : {n e t p k : ℕ} {w1 w2 : List ℕ} → n ≡ cellsOf list
         → After (graphIn list) ss e t p k w1 w2 → LeftThere n e w1
-    left-there {e = e} {w1 = w1} {w2 = w2} en a = record {
+    left-there {e = e} {w1 = w1} en a = record {
       cells = omega (arith, en, list-accepted list h .0);
       pairs = holds-pairs (a .holds) small;
       graph = rw (en, a .graph) (slip-graph list-graph ss (replay-fits list-graph rs ss allowed .0));

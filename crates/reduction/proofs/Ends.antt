@@ -1,12 +1,11 @@
--- The end of a call. In order: a refused call leaves its output (`refused-written`); the short list of the graph in the
--- slots, its length and the file that its words make (`left-length`, `left-file`); the slip of the steps that stand as
--- words, likewise (`taken-length`, `slip-file`); the answer and the outputs by the room that the outputs have. Assumes
+-- The end of a call. In order: the short list of the graph in the slots, its length and the file that its words make
+-- (`left-length`, `left-file`), refused or written by the output's room; the slip of the steps that stand as words,
+-- likewise (`taken-length`, `slip-file`); both files, of which neither is written where one has no room. Assumes
 -- nothing.
-use mathlib.Core.Path.{_≡_, refl, sym, ap, ap₂, _∙_}
+use mathlib.Core.Path.{_≡_, refl, ap, ap₂, _∙_}
 use mathlib.Core.List.{List, [], _∷_, map}
-use Prim.Native.Nat.{ℕ, zero, suc, _+_, _*_, _-_, _≤_, _<_}
+use Prim.Native.Nat.{ℕ, _+_, _*_, _-_, _≤_, _<_}
 use native.Mathlib.Omega.{arith}
-use borrow.Author.Tests.{lt-ltb, le-ltb}
 use lib.ListN.{length, take, drop, length-map, length-drop}
 use lib.Seq.{length-take-le}
 use Rattle.matching.specs.Lists.{All}
@@ -17,36 +16,17 @@ use Rattle.matching.proofs.Short.{short-entries}
 use Rattle.matching.proofs.More.{short-more}
 use Rattle.cellfile.specs.Fields.{fields}
 use Rattle.cellfile.specs.Files.{slip as slipLayout, shortList as shortLayout, writeFile, onto}
-use Rattle.cellfile.specs.Refusals.{Row, shortOutput}
-use Rattle.cellfile.specs.Answers.{Answer, answer}
 use Rattle.cellfile.specs.Loops.{fileOf}
 use Rattle.cellfile.proofs.Fields.{fields-packed}
 use Rattle.cellfile.proofs.RoundTrip.{length-file}
 use Rattle.cellfile.proofs.Walk.{part}
 use Rattle.slots.specs.Slots.{graphOf}
 use Rattle.reduction.specs.Pairs.{asFields, pairWord}
-use Rattle.reduction.specs.Calls.{numberOf, nameFields, written}
+use Rattle.reduction.specs.Calls.{numberOf, nameFields}
 use Rattle.reduction.specs.Running.{nameWord}
-use Rattle.reduction.specs.Writing.{LeftThere, leftFile, takenFile, roomRow, Replays, Reduces}
+use Rattle.reduction.specs.Writing.{LeftThere, leftFile, takenFile, Does}
 use Rattle.reduction.proofs.Listing.{short-file}
-
-pub refused-written : (n k v : ℕ) (vs file out : List ℕ) → (k, []) ≡ answer n (v ∷ vs) → out ≡ written k file out
-refused-written zero k v vs file out e = absurd (omega (arith, ap (λ (a : Answer). length (a .1)) e))
-refused-written (suc n) k v vs file out e =
-    let q : k ≡ suc n = ap (λ (a : Answer). a .0) e in
-    rw q
-
--- ---- the room of one output
-
-module _ (file out : List ℕ) {size : ℕ} (len : size ≡ length file) where
-  pub no-room : length out < size → Replays (roomRow ((length out, length file) ∷ []) ∷ []) file out out (12, [])
-  unfolding shortOutput
-  no-room l = (rw (lt-ltb (length out) (length file) (omega arith)), refl)
-
-  pub room : {out′ : List ℕ} → size ≤ length out → out′ ≡ onto file out
-      → Replays (roomRow ((length out, length file) ∷ []) ∷ []) file out out′ (0, size ∷ [])
-  unfolding shortOutput
-  room l q = (rw (le-ltb (length out) (length file) (omega arith), len), q)
+use Rattle.reduction.proofs.Layers.{no-room, rooms}
 
 -- ---- the short list
 
@@ -54,7 +34,7 @@ module _ {n e : ℕ} {w1 : List ℕ} (points : ℕ) (h : LeftThere n e w1) where
   same : shortList 1024 (graphOf e w1) ≡ shortList n (graphOf e w1)
   same = short-more (h .graph) 1024 (h .cells)
 
-  pub left-length : {r : ℕ} → r ≡ length (shortList 1024 (graphOf e w1))
+  left-length : {r : ℕ} → r ≡ length (shortList 1024 (graphOf e w1))
       → 12 + 8 * r ≡ length (leftFile n points (graphOf e w1))
   left-length q =
       let es = map asFields (shortList n (graphOf e w1)) in
@@ -66,7 +46,7 @@ module _ {n e : ℕ} {w1 : List ℕ} (points : ℕ) (h : LeftThere n e w1) where
         length-file shortLayout (record { cells = n; extra = points ∷ []; entries = es }),
       )
 
-  pub left-file : {ws : List ℕ} → ws ≡ map pairWord (shortList 1024 (graphOf e w1))
+  left-file : {ws : List ℕ} → ws ≡ map pairWord (shortList 1024 (graphOf e w1))
       → writeFile shortLayout (fileOf shortLayout n (points ∷ []) ws) ≡ leftFile n points (graphOf e w1)
   left-file q =
       ap (λ vs. writeFile shortLayout (fileOf shortLayout n (points ∷ []) vs)) (q ∙ ap (map pairWord) same)
@@ -84,18 +64,20 @@ module _ {n e : ℕ} {w1 : List ℕ} (points : ℕ) (h : LeftThere n e w1) where
     abbrev file : List ℕ
     file = leftFile n points (graphOf e w1)
 
-    pub left-refused : length out < 12 + 8 * r
-        → Replays (roomRow ((length out, length file) ∷ []) ∷ []) file out out (12, [])
-    left-refused l = no-room file out (left-length q) l
+    pub left-refused : length out < 12 + 8 * r → Does [] ((file, out, out) ∷ []) (12, [])
+    left-refused l = no-room [] (file, out, out) [] (omega (arith, left-length q)) (refl, tt)
 
     pub left-written : {ws out′ : List ℕ} → ws ≡ map pairWord (shortList 1024 (graphOf e w1))
         → 12 + 8 * r ≤ length out → out′ ≡ onto (writeFile shortLayout (fileOf shortLayout n (points ∷ []) ws)) out
-        → Replays (roomRow ((length out, length file) ∷ []) ∷ []) file out out′ (0, (12 + 8 * r) ∷ [])
-    left-written p l w = room file out (left-length q) l (w ∙ ap (λ (f : List ℕ). onto f out) (left-file p))
+        → Does [] ((file, out, out′) ∷ []) (0, (12 + 8 * r) ∷ [])
+    left-written {out′ = out′} p l w =
+        rw (left-length q)
+        (rooms ((file, out, out′) ∷ []) (omega (arith, left-length q), tt)
+        (w ∙ ap (λ (f : List ℕ). onto f out) (left-file p), tt))
 
 -- ---- the slip
 
-pub taken-length : (n : ℕ) {steps : ℕ} (w2 : List ℕ) → steps ≤ 1024 → 8192 ≤ length w2
+taken-length : (n : ℕ) {steps : ℕ} (w2 : List ℕ) → steps ≤ 1024 → 8192 ≤ length w2
     → 4 + 2 * steps ≡ length (takenFile n steps w2)
 taken-length n {steps} w2 l r =
     let ws = take steps (drop 6144 w2) in
@@ -122,44 +104,6 @@ slip-file n ss h = ap (λ rs. record { cells = n; extra = []; entries = rs }) (a
         ap₂ (λ r rs. r ∷ rs)
         (fields-packed (slipLayout .entry) (nameFields s) (number-fits (name s .0), (h .0, tt))) (again ss (h .1))
 
--- ---- the room of two
-
-module _ (slipFile shortFile slip short : List ℕ) {a b : ℕ} (la : a ≡ length slipFile) (lb : b ≡ length shortFile) where
-  abbrev outs : List (ℕ × ℕ)
-  outs = (length slip, length slipFile) ∷ (length short, length shortFile) ∷ []
-
-  pub no-room-first : length slip < a
-      → Reduces (roomRow outs ∷ []) slipFile shortFile slip slip short short (12, [])
-  unfolding shortOutput
-  no-room-first l = (rw (lt-ltb (length slip) (length slipFile) (omega arith)), refl, refl)
-
-  pub no-room-second : a ≤ length slip → length short < b
-      → Reduces (roomRow outs ∷ []) slipFile shortFile slip slip short short (12, [])
-  unfolding shortOutput
-  no-room-second l k = (
-    rw (
-      le-ltb (length slip) (length slipFile) (omega arith),
-      lt-ltb (length short) (length shortFile) (omega arith),
-    ),
-    refl,
-    refl,
-  )
-
-  pub rooms : {slip′ short′ : List ℕ} → a ≤ length slip → b ≤ length short → slip′ ≡ onto slipFile slip
-      → short′ ≡ onto shortFile short
-      → Reduces (roomRow outs ∷ []) slipFile shortFile slip slip′ short short′ (0, a ∷ b ∷ [])
-  unfolding shortOutput
-  rooms l k p q = (
-    rw (
-      le-ltb (length slip) (length slipFile) (omega arith),
-      le-ltb (length short) (length shortFile) (omega arith),
-      la,
-      lb,
-    ),
-    p,
-    q,
-  )
-
 -- ---- both files
 
 module _ {n e steps : ℕ} {w1 : List ℕ} (w2 : List ℕ) (points : ℕ) (h : LeftThere n e w1) (few : steps ≤ 1024)
@@ -170,24 +114,27 @@ module _ {n e steps : ℕ} {w1 : List ℕ} (w2 : List ℕ) (points : ℕ) (h : L
   abbrev left : List ℕ
   left = leftFile n points (graphOf e w1)
 
-  abbrev both : Row
-  both = roomRow ((length slip, length taken) ∷ (length short, length left) ∷ [])
+  pub both-first : length slip < 4 + 2 * steps → Does [] ((taken, slip, slip) ∷ (left, short, short) ∷ []) (12, [])
+  both-first l =
+      no-room [] (taken, slip, slip) ((left, short, short) ∷ []) (omega (arith, taken-length n w2 few words))
+      (refl, (refl, tt))
 
-  pub both-first : length slip < 4 + 2 * steps → Reduces (both ∷ []) taken left slip slip short short (12, [])
-  both-first = no-room-first taken left slip short (taken-length n w2 few words) (left-length points h q)
-
-  pub both-second : 4 + 2 * steps ≤ length slip → length short < 12 + 8 * r
-      → Reduces (both ∷ []) taken left slip slip short short (12, [])
-  both-second = no-room-second taken left slip short (taken-length n w2 few words) (left-length points h q)
+  pub both-second : length short < 12 + 8 * r → Does [] ((taken, slip, slip) ∷ (left, short, short) ∷ []) (12, [])
+  both-second l =
+      no-room ((taken, slip, slip) ∷ []) (left, short, short) [] (omega (arith, left-length points h q))
+      (refl, (refl, tt))
 
   pub both-written : {ws slip′ short′ : List ℕ} → ws ≡ map pairWord (shortList 1024 (graphOf e w1))
       → 4 + 2 * steps ≤ length slip → 12 + 8 * r ≤ length short
       → slip′ ≡ onto (writeFile slipLayout
       (fileOf slipLayout n [] (take steps (take (length w2 - 6144) (drop 6144 w2))))) slip
       → short′ ≡ onto (writeFile shortLayout (fileOf shortLayout n (points ∷ []) ws)) short
-      → Reduces (both ∷ []) taken left slip slip′ short short′ (0, (4 + 2 * steps) ∷ (12 + 8 * r) ∷ [])
-  both-written {slip′ = slip′} p l k a b =
-      rooms taken left slip short (taken-length n w2 few words) (left-length points h q) l k
-      (part (λ (vs : List ℕ). slip′ ≡ onto (writeFile slipLayout (fileOf slipLayout n [] (take steps vs))) slip) w2
-      6144 a)
-      (b ∙ ap (λ (f : List ℕ). onto f short) (left-file points h p))
+      → Does [] ((taken, slip, slip′) ∷ (left, short, short′) ∷ []) (0, (4 + 2 * steps) ∷ (12 + 8 * r) ∷ [])
+  both-written {slip′ = slip′} {short′ = short′} p l k a b =
+      rw (taken-length n w2 few words, left-length points h q)
+      (rooms ((taken, slip, slip′) ∷ (left, short, short′) ∷ [])
+      (omega (arith, taken-length n w2 few words), (omega (arith, left-length points h q), tt)) (
+        part (λ (vs : List ℕ). slip′ ≡ onto (writeFile slipLayout (fileOf slipLayout n [] (take steps vs))) slip) w2
+            6144 a,
+        (b ∙ ap (λ (f : List ℕ). onto f short) (left-file points h p), tt),
+      ))

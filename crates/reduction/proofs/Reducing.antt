@@ -1,12 +1,11 @@
 -- The layers of reduce. In order: the loop may run (`run-list`); the steps that it took are those of reduce, so that it
--- refuses none (`run-refused`), and what it leaves may be written (`run-both`); refusal 12 (`run-passed`); refusals 2 to
--- 6; refusal 1. Assumes nothing.
+-- refuses none (`run-refused`), what it leaves may be written (`run-both`), and the files are those of reduce
+-- (`run-passed`). Assumes nothing.
 use mathlib.Core.Path.{_≡_, refl, sym, ap, subst, _∙_}
-use mathlib.Core.List.{List, [], _∷_, _++_, map}
+use mathlib.Core.List.{List, [], _∷_, map}
 use mathlib.Core.Option.{Option, some, none}
-use Prim.Native.Nat.{ℕ, _≤_, _<_}
+use Prim.Native.Nat.{ℕ, _≤_}
 use native.Mathlib.Omega.{arith}
-use borrow.Author.Tests.{lt-ltb, le-ltb}
 use lib.ListN.{length}
 use Rattle.matching.specs.Pairs.{Points}
 use Rattle.matching.specs.Steps.{Step, name}
@@ -14,18 +13,17 @@ use Rattle.matching.specs.Slip.{replay, carried, reduce}
 use Rattle.matching.proofs.Reduce.{reduce-replay}
 use Rattle.cellfile.specs.Fields.{readRecords}
 use Rattle.cellfile.specs.Files.{storeList, slip as slipLayout, cellsOf, countOf, writeFile}
-use Rattle.cellfile.specs.Refusals.{Row, first, fewWords, listRows}
-use Rattle.cellfile.specs.Answers.{Answer, answer}
+use Rattle.cellfile.specs.Refusals.{first, listRows}
+use Rattle.cellfile.specs.Answers.{Answer}
 use Rattle.cellfile.specs.Loops.{fileOf}
 use Rattle.cellfile.proofs.Weights.{list-room}
-use Rattle.cellfile.proofs.Layers.{layer-refused, layer-passed}
 use Rattle.slots.specs.Slots.{graphOf}
-use Rattle.reduction.specs.Calls.{graphIn, nameFields, shortFile, slipFile, reduceSteps, reducing, written}
+use Rattle.reduction.specs.Calls.{graphIn, nameFields, shortFile, slipFile, reduceSteps}
 use Rattle.reduction.specs.Course.{course}
 use Rattle.reduction.specs.Running.{RunThere, After, RunDone, namesAt}
-use Rattle.reduction.specs.Writing.{Loaded, LeftThere, leftFile, takenFile, roomRow, Reduces}
+use Rattle.reduction.specs.Writing.{Loaded, LeftThere, leftFile, takenFile, Does}
 use Rattle.reduction.proofs.Courses.{list-graph, run-there, left-there, steps-few, steps-below}
-use Rattle.reduction.proofs.Ends.{refused-written, slip-file}
+use Rattle.reduction.proofs.Ends.{slip-file}
 
 -- ---- the loop
 
@@ -86,71 +84,12 @@ module _ (list : List ℕ) {n e : ℕ} {w1 w2 : List ℕ} (en : n ≡ cellsOf li
         ∙ ap (leftFile (cellsOf list) (carried (graphIn list) ss)) (after .graph)
 
     pub run-passed : (slip short : List ℕ) {slip′ short′ : List ℕ} {a : Answer}
-        → Reduces (roomRow ((length slip, length (takenFile n steps w2′))
-        ∷ (length short, length (leftFile n points (graphOf slots w1′))) ∷ []) ∷ [])
-        (takenFile n steps w2′) (leftFile n points (graphOf slots w1′)) slip slip′ short short′ a
-        → Reduces (roomRow ((length slip, length (slipFile list ss))
-        ∷ (length short, length (shortFile list ss)) ∷ []) ∷ [])
-        (slipFile list ss) (shortFile list ss) slip slip′ short short′ a
+        → Does [] ((takenFile n steps w2′, slip, slip′)
+        ∷ (leftFile n points (graphOf slots w1′), short, short′) ∷ []) a
+        → Does [] ((slipFile list ss, slip, slip′) ∷ (shortFile list ss, short, short′) ∷ []) a
     run-passed slip short {slip′} {short′} {a} p =
         subst (λ (f : List ℕ). Of (slipFile list ss) f) short-same
         (subst (λ (f : List ℕ). Of f (leftFile n points (graphOf slots w1′))) slip-same p)
       where
         Of : List ℕ → List ℕ → Type 0
-        Of f g =
-            Reduces (roomRow ((length slip, length f) ∷ (length short, length g) ∷ []) ∷ []) f g slip slip′ short
-            short′ a
-
-module _ (list slip short : List ℕ) where
-  abbrev slipBytes : List ℕ
-  slipBytes = slipFile list (reduceSteps list)
-
-  abbrev shortBytes : List ℕ
-  shortBytes = shortFile list (reduceSteps list)
-
-  abbrev rest : List Row
-  rest = roomRow ((length slip, length slipBytes) ∷ (length short, length shortBytes) ∷ []) ∷ []
-
-  abbrev lengths : List ℕ
-  lengths = length slipBytes ∷ length shortBytes ∷ []
-
-  -- ---- refusals 2 to 6, from the answer of the list's check
-
-  pub list-refused : {k : ℕ}
-      → (k, []) ≡ answer (first (listRows storeList list)) (cellsOf list ∷ countOf list ∷ [])
-      → Reduces (listRows storeList list ++ rest) slipBytes shortBytes slip slip short short (k, [])
-  list-refused {k} e = (
-    layer-refused (listRows storeList list) rest lengths k (cellsOf list) (countOf list ∷ []) e,
-    refused-written (first (listRows storeList list)) k (cellsOf list) (countOf list ∷ []) slipBytes slip e,
-    refused-written (first (listRows storeList list)) k (cellsOf list) (countOf list ∷ []) shortBytes short e,
-  )
-
-  pub list-passed : {slip′ short′ : List ℕ} {a : Answer} → first (listRows storeList list) ≡ 0
-      → Reduces rest slipBytes shortBytes slip slip′ short short′ a
-      → Reduces (listRows storeList list ++ rest) slipBytes shortBytes slip slip′ short short′ a
-  list-passed h p =
-      (layer-passed (listRows storeList list) rest lengths (omega arith) h (p .0), p .1, p .2)
-
-  -- ---- refusal 1
-
-  -- What reduce promises, for the lengths of the work buffers.
-  abbrev Does : ℕ → ℕ → List ℕ → List ℕ → Answer → Type 0
-  Does i j slip′ short′ a =
-      (a ≡ reducing list (i ∷ j ∷ []) (length slip) (length short)) × (slip′ ≡ written (a .0) slipBytes slip)
-      × (short′ ≡ written (a .0) shortBytes short)
-
-  module _ (i j : ℕ) where
-    pub few-first : i < 8192 → Does i j slip short (1, [])
-    unfolding fewWords
-    few-first h = (rw (lt-ltb i 8192 h), refl, refl)
-
-    module _ (enough : 8192 ≤ i) where
-      pub few-second : j < 8192 → Does i j slip short (1, [])
-      unfolding fewWords
-      few-second h = (rw (le-ltb i 8192 enough, lt-ltb j 8192 h), refl, refl)
-
-      pub enough-words : {slip′ short′ : List ℕ} {a : Answer} → 8192 ≤ j
-          → Reduces (listRows storeList list ++ rest) slipBytes shortBytes slip slip′ short short′ a
-          → Does i j slip′ short′ a
-      unfolding fewWords
-      enough-words h p = (rw (le-ltb i 8192 enough, le-ltb j 8192 h) (p .0), p .1, p .2)
+        Of f g = Does [] ((f, slip, slip′) ∷ (g, short, short′) ∷ []) a

@@ -1,10 +1,11 @@
--- What the layers of replay and reduce ask and promise. Inner contracts cite this; laws: proofs/Ends, proofs/Replaying,
--- proofs/Reducing.
+-- What the layers of replay and reduce ask and promise. Inner contracts cite this; laws: proofs/Layers, proofs/Ends,
+-- proofs/Replaying and proofs/Reducing.
 use mathlib.Core.Path.{_≡_}
 use mathlib.Core.Bool.{false}
-use mathlib.Core.List.{List, [], _∷_, map}
+use mathlib.Core.List.{List, [], _∷_, _++_, map}
 use Prim.Native.Nat.{ℕ, _≤_, _<_}
 use lib.ListN.{length, take, drop}
+use Rattle.matching.specs.Lists.{All}
 use Rattle.matching.specs.Pairs.{Points}
 use Rattle.matching.specs.Listed.{shortList}
 use Rattle.matching.specs.Graph.{Graph}
@@ -19,15 +20,14 @@ use Rattle.reduction.specs.Calls.{graphIn, stand, written}
 -- ---- what is asked
 
 -- The list has passed refusals 2 to 6, the buffers refusal 1.
-pub record ListThere (list : List ℕ) (n m : ℕ) (w1 w2 : List ℕ) : Type 0 where
+pub record ListThere (list : List ℕ) (m : ℕ) (w1 w2 : List ℕ) : Type 0 where
   pub accepted : first (listRows storeList list) ≡ 0
-  pub cells : n ≡ cellsOf list
   pub count : m ≡ countOf list
   pub room1 : 8192 ≤ length w1
   pub room2 : 8192 ≤ length w2
 
 -- The slip has passed refusal 7.
-pub record SlipThere (list : List ℕ) (slip : List ℕ) (k : ℕ) : Type 0 where
+pub record SlipThere (list slip : List ℕ) (k : ℕ) : Type 0 where
   pub formed : badSlip (cellsOf list) slip ≡ false
   pub count : k ≡ countOf slip
 
@@ -56,22 +56,24 @@ leftFile n points w = writeFile shortLayout (record {
 abbrev pub takenFile : ℕ → ℕ → List ℕ → List ℕ
 takenFile n steps w2 = writeFile slipLayout (fileOf slipLayout n [] (take steps (drop 6144 w2)))
 
--- Refusals 7, 8 and 12, for the slip and for each output's length and its file's.
+-- An output of a call: the file that is for it, what it held before, and what it holds afterwards.
+abbrev pub Output : Type 0
+Output = List ℕ × List ℕ × List ℕ
+
+abbrev pub lengths : List Output → List ℕ
+lengths outs = map (λ (o : Output). length (o .0)) outs
+
+-- Refusals 7 and 8 of a slip, and 12, which is the last row of every call with outputs.
 abbrev pub slipRow : List ℕ → List ℕ → Row
 slipRow list slip = (7, badSlip (cellsOf list) slip)
 
 abbrev pub standRow : List ℕ → List ℕ → Row
 standRow list slip = (8, disallowed (stand list) slip)
 
-abbrev pub roomRow : List (ℕ × ℕ) → Row
-roomRow outs = (12, shortOutput outs)
+abbrev pub roomRow : List Output → Row
+roomRow outs = (12, shortOutput (map (λ (o : Output). (length (o .1), length (o .0))) outs))
 
--- The answer to the rows, and each output afterwards, for the file to be written.
-abbrev pub Replays : List Row → (file out out′ : List ℕ) → Answer → Type 0
-Replays rows file out out′ a =
-    (a ≡ answer (first rows) (length file ∷ [])) × (out′ ≡ written (a .0) file out)
-
-abbrev pub Reduces : List Row → (slipFile shortFile slip slip′ short short′ : List ℕ) → Answer → Type 0
-Reduces rows slipFile shortFile slip slip′ short short′ a =
-    (a ≡ answer (first rows) (length slipFile ∷ length shortFile ∷ []))
-    × (slip′ ≡ written (a .0) slipFile slip) × (short′ ≡ written (a .0) shortFile short)
+-- The answer to the rows and refusal 12: the length of each file. The files are written where nothing is refused.
+pub record Does (rows : List Row) (outs : List Output) (a : Answer) : Type 0 where
+  pub says : a ≡ answer (first (rows ++ (roomRow outs ∷ []))) (lengths outs)
+  pub writes : All (λ (o : Output). o .2 ≡ written (a .0) (o .0) (o .1)) outs

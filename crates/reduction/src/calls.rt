@@ -9,23 +9,23 @@ use cellfile::form::Checked;
 use cellfile::work;
 use cellfile::write;
 ghost use mathlib.Core.Path.{_≡_};
-ghost use mathlib.Core.List.{_∷_, []};
+ghost use mathlib.Core.List.{_∷_, [], _++_};
 ghost use Prim.Native.Nat.{_≤_};
 ghost use lib.ListN.{length};
-ghost use Rattle.cellfile.specs.Files.{lent};
+ghost use Rattle.cellfile.specs.Files.{storeList, cellsOf, lent};
+ghost use Rattle.cellfile.specs.Refusals.{fewWords, listRows};
 ghost use Rattle.slots.specs.Slots.{graphOf};
-ghost use Rattle.reduction.specs.Calls.{replayed, reduced, written, replaying, reducing, replayShort, shortFile};
-ghost use Rattle.reduction.specs.Calls.{slipFile, reduceSteps};
+ghost use Rattle.reduction.specs.Calls.{replayed, reduced, replayShort, slipFile, shortFile, reduceSteps};
 ghost use Rattle.reduction.specs.Writing.{ListThere, SlipThere, LeftThere, Loaded, leftFile, takenFile};
-ghost use Rattle.reduction.specs.Writing.{slipRow, standRow, roomRow, Replays, Reduces};
+ghost use Rattle.reduction.specs.Writing.{slipRow, standRow, Does};
 
 const WORDS: usize = 8192;
 
 const STEP_WORDS: usize = 6144;
 
-// The working graph of an accepted list of m entries, in cleared buffers: the number of slots.
-fn load_list(list: &[u8], n: usize, m: usize, w1: &mut [u64], w2: &mut [u64]) -> usize
-    requires { ⌜ ListThere (now list) n m (now w1) (now w2) ⌝ }
+// The working graph of an accepted list of m entries, in slots, of which a cleared buffer holds none: their number.
+fn load_list(list: &[u8], m: usize, w1: &mut [u64], w2: &mut [u64]) -> usize
+    requires { ⌜ ListThere (now list) m (now w1) (now w2) ⌝ }
     ensures { λ r. ⌜ Loaded (now (list .entry)) r (now (w1 .exit)) (now (w2 .exit)) ⌝ }
 {
     work::clear(w2);
@@ -35,9 +35,9 @@ fn load_list(list: &[u8], n: usize, m: usize, w1: &mut [u64], w2: &mut [u64]) ->
 // Refusal 12 and the short list of the graph in e slots.
 fn write_left(n: usize, carried: u64, w1: &mut [u64], e: usize, short: &mut [u8]) -> Replayed
     requires { ⌜ LeftThere n e (now w1) ⌝ }
-    ensures { λ r. ⌜ Replays
-        (roomRow ((length (now (short .entry)), length (leftFile n carried (graphOf e (now (w1 .entry))))) ∷ []) ∷ [])
-        (leftFile n carried (graphOf e (now (w1 .entry)))) (now (short .entry)) (now (short .exit)) (replayed r) ⌝ }
+    ensures { λ r. ⌜ Does []
+        ((leftFile n carried (graphOf e (now (w1 .entry))), now (short .entry), now (short .exit)) ∷ [])
+        (replayed r) ⌝ }
 {
     let r = lists::finish(w1, e);
     let size = 12 + 8 * r;
@@ -59,12 +59,13 @@ fn replay_slip(
     w2: &mut [u64],
     short: &mut [u8],
 ) -> Replayed
-    requires { ⌜ ListThere (now list) n m (now w1) (now w2) × SlipThere (now list) (now slip) k ⌝ }
-    ensures { λ r. ⌜ Replays (standRow (now (list .entry)) (now (slip .entry))
-        ∷ roomRow ((length (now (short .entry)), length (replayShort (now (list .entry)) (now (slip .entry)))) ∷ []) ∷ [])
-        (replayShort (now (list .entry)) (now (slip .entry))) (now (short .entry)) (now (short .exit)) (replayed r) ⌝ }
+    requires { ⌜ ListThere (now list) m (now w1) (now w2) × (n ≡ cellsOf (now list))
+        × SlipThere (now list) (now slip) k ⌝ }
+    ensures { λ r. ⌜ Does (standRow (now (list .entry)) (now (slip .entry)) ∷ [])
+        ((replayShort (now (list .entry)) (now (slip .entry)), now (short .entry), now (short .exit)) ∷ [])
+        (replayed r) ⌝ }
 {
-    let e = load_list(list, n, m, w1, w2);
+    let e = load_list(list, m, w1, w2);
     match running::run(slip, k, 0, n, w1, w2, e) {
         Ran::Refused(r) => Replayed::Refused(r),
         Ran::Done {
@@ -86,11 +87,11 @@ fn replay_list(
     w2: &mut [u64],
     short: &mut [u8],
 ) -> Replayed
-    requires { ⌜ ListThere (now list) n m (now w1) (now w2) ⌝ }
-    ensures { λ r. ⌜ Replays (slipRow (now (list .entry)) (now (slip .entry))
-        ∷ standRow (now (list .entry)) (now (slip .entry))
-        ∷ roomRow ((length (now (short .entry)), length (replayShort (now (list .entry)) (now (slip .entry)))) ∷ []) ∷ [])
-        (replayShort (now (list .entry)) (now (slip .entry))) (now (short .entry)) (now (short .exit)) (replayed r) ⌝ }
+    requires { ⌜ ListThere (now list) m (now w1) (now w2) × (n ≡ cellsOf (now list)) ⌝ }
+    ensures { λ r. ⌜ Does (slipRow (now (list .entry)) (now (slip .entry))
+        ∷ standRow (now (list .entry)) (now (slip .entry)) ∷ [])
+        ((replayShort (now (list .entry)) (now (slip .entry)), now (short .entry), now (short .exit)) ∷ [])
+        (replayed r) ⌝ }
 {
     match form::check_slip(slip, n) {
         Checked::Refused(r) => Replayed::Refused(r),
@@ -106,10 +107,11 @@ pub fn replay_in(
     work_b: &mut [u64],
     short: &mut [u8],
 ) -> Replayed
-    ensures { λ r. ⌜ (replayed r ≡ replaying (now (list .entry)) (now (slip .entry))
-        (lent (now («work_a» .entry)) (now («work_b» .entry))) (length (now (short .entry))))
-        × (now (short .exit) ≡ written (replayed r .0)
-        (replayShort (now (list .entry)) (now (slip .entry))) (now (short .entry))) ⌝ }
+    ensures { λ r. ⌜ Does ((1, fewWords (lent (now («work_a» .entry)) (now («work_b» .entry))))
+        ∷ (listRows storeList (now (list .entry)) ++ (slipRow (now (list .entry)) (now (slip .entry))
+        ∷ standRow (now (list .entry)) (now (slip .entry)) ∷ [])))
+        ((replayShort (now (list .entry)) (now (slip .entry)), now (short .entry), now (short .exit)) ∷ [])
+        (replayed r) ⌝ }
 {
     if work_a.len() < WORDS {
         return Replayed::Refused(1);
@@ -135,11 +137,10 @@ fn write_both(
     short: &mut [u8],
 ) -> Reduced
     requires { ⌜ LeftThere n e (now w1) × (steps ≤ 1024) × (8192 ≤ length (now w2)) ⌝ }
-    ensures { λ r. ⌜ Reduces
-        (roomRow ((length (now (slip .entry)), length (takenFile n steps (now (w2 .entry))))
-        ∷ (length (now (short .entry)), length (leftFile n carried (graphOf e (now (w1 .entry))))) ∷ []) ∷ [])
-        (takenFile n steps (now (w2 .entry))) (leftFile n carried (graphOf e (now (w1 .entry))))
-        (now (slip .entry)) (now (slip .exit)) (now (short .entry)) (now (short .exit)) (reduced r) ⌝ }
+    ensures { λ r. ⌜ Does []
+        ((takenFile n steps (now (w2 .entry)), now (slip .entry), now (slip .exit))
+        ∷ (leftFile n carried (graphOf e (now (w1 .entry))), now (short .entry), now (short .exit)) ∷ [])
+        (reduced r) ⌝ }
 {
     let r = lists::finish(w1, e);
     let slip_size = 4 + 2 * steps;
@@ -168,15 +169,14 @@ fn reduce_list(
     slip: &mut [u8],
     short: &mut [u8],
 ) -> Reduced
-    requires { ⌜ ListThere (now list) n m (now w1) (now w2) ⌝ }
-    ensures { λ r. ⌜ Reduces
-        (roomRow ((length (now (slip .entry)), length (slipFile (now (list .entry)) (reduceSteps (now (list .entry)))))
-        ∷ (length (now (short .entry)), length (shortFile (now (list .entry)) (reduceSteps (now (list .entry))))) ∷ []) ∷ [])
-        (slipFile (now (list .entry)) (reduceSteps (now (list .entry))))
-        (shortFile (now (list .entry)) (reduceSteps (now (list .entry))))
-        (now (slip .entry)) (now (slip .exit)) (now (short .entry)) (now (short .exit)) (reduced r) ⌝ }
+    requires { ⌜ ListThere (now list) m (now w1) (now w2) × (n ≡ cellsOf (now list)) ⌝ }
+    ensures { λ r. ⌜ Does []
+        ((slipFile (now (list .entry)) (reduceSteps (now (list .entry))), now (slip .entry), now (slip .exit))
+        ∷ (shortFile (now (list .entry)) (reduceSteps (now (list .entry))), now (short .entry), now (short .exit))
+        ∷ [])
+        (reduced r) ⌝ }
 {
-    let e = load_list(list, n, m, w1, w2);
+    let e = load_list(list, m, w1, w2);
     match running::run(list, 0, n, n, w1, w2, e) {
         Ran::Refused(r) => Reduced::Refused(r),
         Ran::Done {
@@ -196,12 +196,12 @@ pub fn reduce_in(
     slip: &mut [u8],
     short: &mut [u8],
 ) -> Reduced
-    ensures { λ r. ⌜ (reduced r ≡ reducing (now (list .entry)) (lent (now («work_a» .entry)) (now («work_b» .entry)))
-        (length (now (slip .entry))) (length (now (short .entry))))
-        × (now (slip .exit) ≡ written (reduced r .0)
-        (slipFile (now (list .entry)) (reduceSteps (now (list .entry)))) (now (slip .entry)))
-        × (now (short .exit) ≡ written (reduced r .0)
-        (shortFile (now (list .entry)) (reduceSteps (now (list .entry)))) (now (short .entry))) ⌝ }
+    ensures { λ r. ⌜ Does ((1, fewWords (lent (now («work_a» .entry)) (now («work_b» .entry))))
+        ∷ listRows storeList (now (list .entry)))
+        ((slipFile (now (list .entry)) (reduceSteps (now (list .entry))), now (slip .entry), now (slip .exit))
+        ∷ (shortFile (now (list .entry)) (reduceSteps (now (list .entry))), now (short .entry), now (short .exit))
+        ∷ [])
+        (reduced r) ⌝ }
 {
     if work_a.len() < WORDS {
         return Reduced::Refused(1);

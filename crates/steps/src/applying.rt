@@ -8,7 +8,7 @@ use slots::read;
 ghost use mathlib.Core.Path.{_≡_};
 ghost use mathlib.Core.Logic.{_≢_};
 ghost use mathlib.Core.Option.{some};
-ghost use Prim.Native.Nat.{_+_, _<_, _≤_, max};
+ghost use Prim.Native.Nat.{_+_, _<_, _≤_};
 ghost use lib.Dec.{ltb};
 ghost use Rattle.matching.specs.Pairs.{ι};
 ghost use Rattle.matching.specs.Graph.{put};
@@ -108,15 +108,6 @@ fn clear_row(
     Cleared { slots, pairs }
 }
 
-fn larger(a: u64, b: u64) -> u64
-    ensures { λ r. ⌜ r ≡ max a b ⌝ }
-{
-    if a < b {
-        return b;
-    }
-    a
-}
-
 // 1 where a is greater than b.
 fn exceeds(a: u64, b: u64) -> u64
     ensures { λ r. ⌜ (r ≡ ι (ltb b a)) × (r ≤ 1) ⌝ }
@@ -154,7 +145,7 @@ fn raise_pair(w1: &mut [u64], w2: &mut [u64], e: usize, u: usize, v: usize, k: u
     ensures { λ r. ⌜ PairRaised e (now (w1 .entry)) (now (w2 .entry)) (now (w1 .exit)) (now (w2 .exit)) u v k r ⌝ }
 {
     let before = free_pair(w1, w2, e, u, v);
-    let slots = put_pair(w1, w2, e, u, v, larger(before, k));
+    let slots = put_pair(w1, w2, e, u, v, row::larger(before, k));
     Raised {
         slots,
         more: exceeds(before, k),

@@ -25,12 +25,16 @@ same-length-3 c = search needs
 
 returns : tie.Need-returns
 returns c =
-    let at-clear = c .before .before .before .before .before .before in
+    let at-clear2 = c .before .before in
+    let at-clear = at-clear2 .before .before .before .before in
     let w = at-clear .before .before .before .before .before .before .before .before .replay-in in (
-      w .ensures .0,
+      w .ensures .says,
       (
-        w .ensures .1,
-        (at-clear .clear .ensures ∙ ap zeros (w .kept .1 .1 .0), c .before .before .clear2 .ensures ∙ ap zeros (w .kept .1 .1 .1 .0)),
+        w .ensures .writes .0,
+        (
+          at-clear .clear .ensures ∙ ap zeros (w .kept .1 .1 .0),
+          at-clear2 .clear2 .ensures ∙ ap zeros (w .kept .1 .1 .1 .0),
+        ),
       ),
     )
 

@@ -12,9 +12,8 @@ load-list-requires c κs = search needs
 run-requires : tie.Need-run-requires
 run-requires c κs =
     let at-load-list = c .before .before .before .before .before .before in
-    let start = at-load-list .before .before .before .before .before .before .before .before in
-    let p = start .pre in
-    run-list _ (p .cells) (at-load-list .load-list .ensures) (p .accepted)
+    let p = at-load-list .before .before .before .before .before .before .before .before .pre in
+    run-list _ (p .1) (at-load-list .load-list .ensures) (p .0 .accepted)
 
 enum-known-r : tie.Need-enum-known-r
 enum-known-r c = search needs
@@ -24,12 +23,12 @@ enum-known-slots c = search needs
 
 write-both-requires : tie.Need-write-both-requires
 write-both-requires c κs =
-    let at-run = c .before .before .before .before .before .before .before .before .before .before .before in
+    let at-slots = c .before .before .before .before .before in
+    let at-run = at-slots .before .before .before .before .before .before in
     let at-load-list = at-run .before .before .before .before .before .before .before in
-    let start = at-load-list .before .before .before .before .before .before .before .before in
-    let p = start .pre in
-    let d = subst (Runs _ _ _ _ _ _) (c .before .before .before .before .before .slots .given .1) (at-run .run .ensures) in
-    run-both _ (p .cells) (at-load-list .load-list .ensures) (p .accepted) d
+    let p = at-load-list .before .before .before .before .before .before .before .before .pre in
+    let d = subst (Runs _ _ _ _ _ _) (at-slots .slots .given .1) (at-run .run .ensures) in
+    run-both _ (p .1) (at-load-list .load-list .ensures) (p .0 .accepted) d
 
 same-length : tie.Need-same-length
 same-length c = search needs
@@ -39,12 +38,12 @@ same-length-2 c = search needs
 
 returns : tie.Need-returns
 returns c =
-    let at-run = c .before .before .before .before .before .before .before in
+    let at-r = c .before in
+    let at-run = at-r .before .before .before .before .before .before in
     let at-load-list = at-run .before .before .before .before .before .before .before in
-    let start = at-load-list .before .before .before .before .before .before .before .before in
-    let p = start .pre in
-    let d = subst (Runs _ _ _ _ _ _) (c .before .r .given .1) (at-run .run .ensures) in
-    absurd (run-refused _ (p .cells) (at-load-list .load-list .ensures) (d .1))
+    let p = at-load-list .before .before .before .before .before .before .before .before .pre in
+    let d = subst (Runs _ _ _ _ _ _) (at-r .r .given .1) (at-run .run .ensures) in
+    absurd (run-refused _ (p .1) (at-load-list .load-list .ensures) (d .1))
 
 same-length-3 : tie.Need-same-length-3
 same-length-3 c = search needs
@@ -61,12 +60,12 @@ same-length-6 c = search needs
 returns-2 : tie.Need-returns-2
 returns-2 c =
     let at-write-both = c .before .before .before .before .before .before in
-    let at-run = at-write-both .before .before .before .before .before .before .before .before .before .before .before .before in
+    let at-slots = at-write-both .before .before .before .before .before .before in
+    let at-run = at-slots .before .before .before .before .before .before in
     let at-load-list = at-run .before .before .before .before .before .before .before in
-    let start = at-load-list .before .before .before .before .before .before .before .before in
-    let p = start .pre in
-    let d = subst (Runs _ _ _ _ _ _) (at-write-both .before .before .before .before .before .before .slots .given .1) (at-run .run .ensures) in
-    run-passed _ (p .cells) (at-load-list .load-list .ensures) (p .accepted) d _ _ (at-write-both .write-both .ensures)
+    let p = at-load-list .before .before .before .before .before .before .before .before .pre in
+    let d = subst (Runs _ _ _ _ _ _) (at-slots .slots .given .1) (at-run .run .ensures) in
+    run-passed _ (p .1) (at-load-list .load-list .ensures) (p .0 .accepted) d _ _ (at-write-both .write-both .ensures)
 
 pub reduce-list-spec : {M : Type 1} → statement M
 reduce-list-spec =

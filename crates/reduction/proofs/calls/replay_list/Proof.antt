@@ -1,6 +1,5 @@
 -- `replay_list` answers refusal 7, or what `replay_slip` answers.
-use mathlib.Core.Path.{sym, ap, _∙_}
-use mathlib.Core.List.{[]}
+use mathlib.Core.Path.{refl, sym, ap, _∙_}
 use Rattle.cellfile.specs.Answers.{checked}
 use Rattle.reduction.proofs.Replaying.{slip-refused, slip-accepted, slip-passed}
 use borrow.Author.Needs.{needs}
@@ -18,15 +17,18 @@ enum-known-k c = search needs
 
 replay-slip-requires : tie.Need-replay-slip-requires
 replay-slip-requires c κs =
-    let at-check-slip = c .before .before .before .before .before .before in
+    let at-k = c .before .before .before .before in
+    let at-check-slip = at-k .before .before in
     let p = at-check-slip .before .before .before .before .before .before .pre in
-    (p, slip-accepted _ _ [] (p .cells) (ap checked (sym (c .before .before .before .before .k .given .1)) ∙ at-check-slip .check-slip .ensures))
+    (p .0, p .1, slip-accepted _ _ (p .1) (ap checked (sym (at-k .k .given .1)) ∙ at-check-slip .check-slip .ensures))
 
 returns : tie.Need-returns
 returns c =
-    let at-check-slip = c .before .before .before in
+    let at-r = c .before in
+    let at-check-slip = at-r .before .before in
     let p = at-check-slip .before .before .before .before .before .before .pre in
-    slip-refused _ _ _ (p .cells) (ap checked (sym (c .before .r .given .1)) ∙ at-check-slip .check-slip .ensures)
+    let e = ap checked (sym (at-r .r .given .1)) ∙ at-check-slip .check-slip .ensures in
+    slip-refused _ _ (p .1) _ e (refl, tt)
 
 same-length : tie.Need-same-length
 same-length c = search needs
@@ -39,11 +41,12 @@ same-length-3 c = search needs
 
 returns-2 : tie.Need-returns-2
 returns-2 c =
-    let at-check-slip = c .before .before .before .before .before .before .before .before .before .before .before .before .before in
+    let at-replay-slip = c .before .before .before .before .before .before in
+    let at-k = at-replay-slip .before .before .before .before .before in
+    let at-check-slip = at-k .before .before in
     let p = at-check-slip .before .before .before .before .before .before .pre in
-    slip-passed _ _ _
-    (slip-accepted _ _ [] (p .cells) (ap checked (sym (c .before .before .before .before .before .before .before .before .before .before .before .k .given .1)) ∙ at-check-slip .check-slip .ensures))
-    (c .before .before .before .before .before .before .replay-slip .ensures)
+    let e = ap checked (sym (at-k .k .given .1)) ∙ at-check-slip .check-slip .ensures in
+    slip-passed _ (slip-accepted _ _ (p .1) e) (at-replay-slip .replay-slip .ensures)
 
 pub replay-list-spec : {M : Type 1} → statement M
 replay-list-spec =

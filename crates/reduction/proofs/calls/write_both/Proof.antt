@@ -41,7 +41,7 @@ returns-2 c =
     let a = start .args in
     let p = start .pre in
     both-second (a .w2 .now) (a .carried) (p .0) (p .1) (p .2) (a .slip .now) (a .short .now)
-    (at-finish .finish .ensures .1) (c .before .if1 .left) (c .if2 .taken)
+    (at-finish .finish .ensures .1) (c .if2 .taken)
 
 sub-write-slip : tie.Need-sub-write-slip
 sub-write-slip c = search needs
