@@ -13,7 +13,7 @@ use lib.Dec.{ltb}
 use lib.ListN.{length}
 use Rattle.matching.specs.Lists.{mem, All}
 use Rattle.matching.specs.Pairs.{Pair, Points, sum, hit, same, like}
-use Rattle.matching.specs.Pairing.{Pairing, Heaviest}
+use Rattle.matching.specs.Pairing.{mate, partner, Pairing, Heaviest}
 use Rattle.matching.specs.Graph.{Graph}
 use Rattle.matching.specs.Solve.{less, tries, solve}
 use Rattle.matching.proofs.Tests.{Test, pass, fail, isT, eqT, ltT, andT, passes, fails}
@@ -23,8 +23,6 @@ use Rattle.matching.proofs.Sums.{without, sum-none, each-keep, hit-none
 use Rattle.matching.proofs.Sums.{once-cons, without-once, without-none, like-hit}
 use Rattle.matching.proofs.Solve.{less-gone, less-past, less-length, less-ascends}
 use Rattle.matching.proofs.Partner.{
-  mate,
-  partner,
   mate-left,
   mate-turned,
   partner-none,

@@ -10,7 +10,7 @@ use native.Mathlib.Omega.{arith}
 use lib.Dec.{eqb}
 use borrow.Author.Tests.{eq-eqb}
 use Rattle.matching.specs.Pairs.{Pair, Points, ι, sum, Each, hit, like}
-use Rattle.matching.specs.Pairing.{Once}
+use Rattle.matching.specs.Pairing.{Once, mate, partner}
 use Rattle.matching.proofs.Tests.{Test, pass, fail, eqT}
 use Rattle.matching.proofs.Pairs.{Same, Apart, sameT}
 use Rattle.matching.proofs.Sums.{
@@ -26,13 +26,7 @@ use Rattle.matching.proofs.Sums.{
 }
 use Rattle.matching.proofs.Sums.{like-hit}
 
--- ---- the partner of a cell: 0 where it has none, else the partner's number and 1
-
-unfoldable pub mate : ℕ → Points
-mate c a b = cond (eqb a c) (suc b) (cond (eqb b c) (suc a) 0)
-
-abbrev pub partner : ℕ → List Pair → ℕ
-partner c m = sum (mate c) m
+-- ---- the partner of a cell
 
 pub mate-left : (c b : ℕ) → mate c c b ≡ suc b
 unfolding mate

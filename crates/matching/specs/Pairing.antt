@@ -1,8 +1,8 @@
 -- A pairing (matching) of a list or graph: 'a set of its pairs in which no cell stands twice, the empty set too'.
-use mathlib.Core.Bool.{Bool, _&&_}
+use mathlib.Core.Bool.{Bool, cond, _&&_}
 use mathlib.Core.List.{List, [], _∷_}
-use Prim.Native.Nat.{ℕ, _≤_, _<_}
-use lib.Dec.{ltb}
+use Prim.Native.Nat.{ℕ, suc, _≤_, _<_}
+use lib.Dec.{eqb, ltb}
 use Rattle.matching.specs.Lists.{all, distinct}
 use Rattle.matching.specs.Pairs.{Pair, Points, sum, Each, hit}
 
@@ -20,6 +20,13 @@ pub record Pairing (there : Points) (m : List Pair) : Type 0 where
 pub record Heaviest (there w : Points) (m : List Pair) : Type 0 where
   pub pairing : Pairing there m
   pub most : (k : List Pair) → Pairing there k → sum w k ≤ sum w m
+
+-- The partner of a cell: 0 where it has none, else the partner's number and 1.
+unfoldable pub mate : ℕ → Points
+mate c a b = cond (eqb a c) (suc b) (cond (eqb b c) (suc a) 0)
+
+abbrev pub partner : ℕ → List Pair → ℕ
+partner c m = sum (mate c) m
 
 -- The cells of the pairs, one after the other.
 abbrev pub cells : List Pair → List ℕ

@@ -1,6 +1,6 @@
 -- The layers that the calls with outputs share. In order: an output that is kept is right where the call is refused;
--- what some rows refuse, and what they pass on to the rows after them (`refused`, `passed`); refusals 2 to 6, from the
--- answer of the list's check; refusal 1; refusal 12 (`no-room`, `rooms`). Assumes nothing.
+-- what some rows refuse, and what they pass on to the rows after them (`refused`, `passed`); refusal 12 (`no-room`,
+-- `rooms`). Assumes nothing.
 use mathlib.Core.Path.{_≡_, refl, sym, ap, _∙_}
 use mathlib.Core.Bool.{Bool, true, false, _||_}
 use mathlib.Core.List.{List, [], _∷_, _++_, map, append-assoc}
@@ -11,8 +11,8 @@ use lib.Dec.{ltb}
 use lib.ListN.{length}
 use Rattle.matching.specs.Lists.{All}
 use Rattle.matching.proofs.Alls.{all-map}
-use Rattle.cellfile.specs.Files.{storeList, cellsOf, countOf, onto}
-use Rattle.cellfile.specs.Refusals.{Row, first, fewWords, listRows, shortOutput}
+use Rattle.cellfile.specs.Files.{onto}
+use Rattle.cellfile.specs.Refusals.{Row, first, shortOutput}
 use Rattle.cellfile.specs.Answers.{Answer, answer}
 use Rattle.cellfile.proofs.Layers.{layer-refused, layer-passed}
 use Rattle.reduction.specs.Calls.{written}
@@ -52,33 +52,6 @@ module _ (rows more : List Row) {outs : List Output} where
     says = parted rows more outs a (layer-passed rows (more ++ (roomRow outs ∷ [])) (lengths outs) h e (d .says));
     writes = d .writes;
   }
-
--- ---- refusals 2 to 6
-
-module _ (list : List ℕ) (more : List Row) {outs : List Output} where
-  pub list-refused : {k : ℕ} → (k, []) ≡ answer (first (listRows storeList list)) (cellsOf list ∷ countOf list ∷ [])
-      → Kept outs → Does (listRows storeList list ++ more) outs (k, [])
-  list-refused = refused (listRows storeList list) more (cellsOf list) (countOf list ∷ [])
-
-  pub list-passed : {a : Answer} → first (listRows storeList list) ≡ 0 → Does more outs a
-      → Does (listRows storeList list ++ more) outs a
-  list-passed = passed (listRows storeList list) more (omega arith)
-
--- ---- refusal 1
-
-module _ (i j : ℕ) (more : List Row) {outs : List Output} where
-  pub few-first : i < 8192 → Kept outs → Does ((1, fewWords (i ∷ j ∷ [])) ∷ more) outs (1, [])
-  unfolding fewWords
-  few-first l h = record { says = rw (lt-ltb i 8192 l); writes = h }
-
-  pub few-second : 8192 ≤ i → j < 8192 → Kept outs → Does ((1, fewWords (i ∷ j ∷ [])) ∷ more) outs (1, [])
-  unfolding fewWords
-  few-second k l h = record { says = rw (le-ltb i 8192 k, lt-ltb j 8192 l); writes = h }
-
-  pub enough-words : {a : Answer} → 8192 ≤ i → 8192 ≤ j → Does more outs a
-      → Does ((1, fewWords (i ∷ j ∷ [])) ∷ more) outs a
-  unfolding fewWords
-  enough-words k l d = record { says = rw (le-ltb i 8192 k, le-ltb j 8192 l) (d .says); writes = d .writes }
 
 -- ---- refusal 12
 

@@ -7,5 +7,6 @@ pub mod Runs
 pub mod Layers
 pub mod Courses
 pub mod Ends
+pub mod Starts
 pub mod Replaying
 pub mod Reducing

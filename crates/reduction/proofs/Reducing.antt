@@ -1,95 +1,72 @@
--- The layers of reduce. In order: the loop may run (`run-list`); the steps that it took are those of reduce, so that it
--- refuses none (`run-refused`), what it leaves may be written (`run-both`), and the files are those of reduce
--- (`run-passed`). Assumes nothing.
-use mathlib.Core.Path.{_≡_, refl, sym, ap, subst, _∙_}
+-- Reduce. In order: its steps are allowed; what they leave may be written (`reduce-left`); and that is what reduce is to
+-- write (`reduce-passed`). Assumes nothing.
+use mathlib.Core.Path.{_≡_, sym, ap, subst, _∙_}
 use mathlib.Core.List.{List, [], _∷_, map}
 use mathlib.Core.Option.{Option, some, none}
 use Prim.Native.Nat.{ℕ, _≤_}
 use native.Mathlib.Omega.{arith}
 use lib.ListN.{length}
-use Rattle.matching.specs.Pairs.{Points}
 use Rattle.matching.specs.Steps.{Step, name}
-use Rattle.matching.specs.Slip.{replay, carried, reduce}
+use Rattle.matching.specs.Slip.{replay}
 use Rattle.matching.proofs.Reduce.{reduce-replay}
-use Rattle.cellfile.specs.Fields.{readRecords}
-use Rattle.cellfile.specs.Files.{storeList, slip as slipLayout, cellsOf, countOf, writeFile}
+use Rattle.cellfile.specs.Files.{storeList, slip as slipLayout, cellsOf, writeFile}
 use Rattle.cellfile.specs.Refusals.{first, listRows}
 use Rattle.cellfile.specs.Answers.{Answer}
 use Rattle.cellfile.specs.Loops.{fileOf}
-use Rattle.cellfile.proofs.Weights.{list-room}
 use Rattle.slots.specs.Slots.{graphOf}
+use Rattle.slots.proofs.Holding.{holds-room}
 use Rattle.reduction.specs.Calls.{graphIn, nameFields, shortFile, slipFile, reduceSteps}
-use Rattle.reduction.specs.Course.{course}
-use Rattle.reduction.specs.Running.{RunThere, After, RunDone, namesAt}
-use Rattle.reduction.specs.Writing.{Loaded, LeftThere, leftFile, takenFile, Does}
-use Rattle.reduction.proofs.Courses.{list-graph, run-there, left-there, steps-few, steps-below}
+use Rattle.reduction.specs.Running.{After}
+use Rattle.reduction.specs.Writing.{LeftThere, leftFile, takenFile, Does}
+use Rattle.reduction.specs.Starting.{listStart, StartDone}
+use Rattle.reduction.proofs.Layers.{passed}
+use Rattle.reduction.proofs.Courses.{list-graph, left-there, steps-few, steps-below}
 use Rattle.reduction.proofs.Ends.{slip-file}
+use Rattle.reduction.proofs.Replaying.{left-file}
 
--- ---- the loop
+pub reduce-allowed : (list : List ℕ) → first (listRows storeList list) ≡ 0
+    → replay (cellsOf list) (graphIn list) (map name (reduceSteps list)) ≡ some (reduceSteps list)
+reduce-allowed list h = reduce-replay (cellsOf list) (list-graph list h)
 
-module _ (list : List ℕ) {n e : ℕ} {w1 w2 : List ℕ} (en : n ≡ cellsOf list) (l : Loaded list e w1 w2) where
+module _ (list : List ℕ) {n slots trail points steps : ℕ} {w1′ w2′ : List ℕ}
+    (d : StartDone list (some (reduceSteps list)) n slots trail points steps w1′ w2′) where
   abbrev ss : List Step
   ss = reduceSteps list
 
-  steps-are : course n (graphOf e w1) (namesAt 0 list) n ≡ some ss
-  unfolding readRecords
-  steps-are =
-      ap (λ (w : Points). some (reduce n n w)) (l .graph) ∙ ap (λ (i : ℕ). some (reduce i i (graphIn list))) en
-
-  pub run-list : first (listRows storeList list) ≡ 0 → RunThere n e 0 list w1 w2 × (n ≤ 1024)
-  run-list h =
-      let r : RunThere n e 0 list w1 w2 =
-      run-there list h en l (omega arith) (omega (arith, list-room list {m = countOf list} h refl)) in
-      (r, r .cells)
-
-  pub run-refused : course n (graphOf e w1) (namesAt 0 list) n ≡ none → ⊥
-  run-refused h =
-      let z : _≡_ {A = ℕ} 1 0 = ap is (sym steps-are ∙ h) in
-      omega arith
+  -- the steps taken are those of reduce
+  pub reduce-after : After (graphIn list) ss slots trail points steps w1′ w2′
+  reduce-after =
+      subst (λ (ts : List Step). After (graphIn list) ts slots trail points steps w1′ w2′)
+      (ap there (sym (d .steps-are))) (d .after)
     where
-      is : Option (List Step) → ℕ
-      is o = elim o [ none ↦ 0 | some ts ↦ 1 ]
+      there : Option (List Step) → List Step
+      there o = elim o [ none ↦ [] | some ts ↦ ts ]
 
-  module _ (h : first (listRows storeList list) ≡ 0) {slots trail points steps : ℕ} {w1′ w2′ : List ℕ}
-      (d : RunDone n (graphOf e w1) (namesAt 0 list) n slots trail points steps w1′ w2′) where
-    after : After (graphIn list) ss slots trail points steps w1′ w2′
-    after =
-        subst (λ (w : Points). After w ss slots trail points steps w1′ w2′) (l .graph)
-        (subst (λ (ts : List Step). After (graphOf e w1) ts slots trail points steps w1′ w2′)
-        (ap there (sym (d .course) ∙ steps-are)) (d .after))
-      where
-        there : Option (List Step) → List Step
-        there o = elim o [ none ↦ [] | some ts ↦ ts ]
+  allowed : replay (cellsOf list) (graphIn list) (map name ss) ≡ some ss
+  allowed = reduce-allowed list (d .accepted)
 
-    allowed : replay (cellsOf list) (graphIn list) (map name ss) ≡ some ss
-    allowed = reduce-replay (cellsOf list) (list-graph list h)
+  pub reduce-left : LeftThere n slots w1′ × (steps ≤ 1024) × (8192 ≤ length w2′)
+  reduce-left = (
+    left-there list (d .accepted) (map name ss) ss allowed (d .cells) reduce-after,
+    omega (arith, reduce-after .count, steps-few list (d .accepted) (map name ss) ss allowed),
+    holds-room (reduce-after .holds) .1,
+  )
 
-    pub run-both : LeftThere n slots w1′ × (steps ≤ 1024) × (8192 ≤ length w2′)
-    run-both = (
-      left-there list h (map name ss) ss allowed en after,
-      omega (arith, after .count, steps-few list h (map name ss) ss allowed),
-      after .holds .room2,
-    )
+  slip-same : takenFile n steps w2′ ≡ slipFile list ss
+  slip-same =
+      ap (λ (ws : List ℕ). writeFile slipLayout (fileOf slipLayout n [] ws)) (reduce-after .names)
+      ∙ ap (writeFile slipLayout) (slip-file n ss (steps-below list (d .accepted) (map name ss) ss allowed))
+      ∙ ap (λ (i : ℕ). writeFile slipLayout (record { cells = i; extra = []; entries = map nameFields ss }))
+      (d .cells)
 
-    slip-same : takenFile n steps w2′ ≡ slipFile list ss
-    slip-same =
-        ap (λ (ws : List ℕ). writeFile slipLayout (fileOf slipLayout n [] ws)) (after .names)
-        ∙ ap (writeFile slipLayout) (slip-file n ss (steps-below list h (map name ss) ss allowed))
-        ∙ ap (λ (i : ℕ). writeFile slipLayout (record { cells = i; extra = []; entries = map nameFields ss })) en
-
-    short-same : leftFile n points (graphOf slots w1′) ≡ shortFile list ss
-    short-same =
-        ap (λ (i : ℕ). leftFile i points (graphOf slots w1′)) en
-        ∙ ap (λ (i : ℕ). leftFile (cellsOf list) i (graphOf slots w1′)) (after .carries)
-        ∙ ap (leftFile (cellsOf list) (carried (graphIn list) ss)) (after .graph)
-
-    pub run-passed : (slip short : List ℕ) {slip′ short′ : List ℕ} {a : Answer}
-        → Does [] ((takenFile n steps w2′, slip, slip′)
-        ∷ (leftFile n points (graphOf slots w1′), short, short′) ∷ []) a
-        → Does [] ((slipFile list ss, slip, slip′) ∷ (shortFile list ss, short, short′) ∷ []) a
-    run-passed slip short {slip′} {short′} {a} p =
-        subst (λ (f : List ℕ). Of (slipFile list ss) f) short-same
-        (subst (λ (f : List ℕ). Of f (leftFile n points (graphOf slots w1′))) slip-same p)
-      where
-        Of : List ℕ → List ℕ → Type 0
-        Of f g = Does [] ((f, slip, slip′) ∷ (g, short, short′) ∷ []) a
+  pub reduce-passed : (lent : List ℕ) → first (listStart list lent) ≡ 0 → (slip short : List ℕ) {slip′ short′ : List ℕ} {a : Answer}
+      → Does [] ((takenFile n steps w2′, slip, slip′)
+      ∷ (leftFile n points (graphOf slots w1′), short, short′) ∷ []) a
+      → Does (listStart list lent) ((slipFile list ss, slip, slip′) ∷ (shortFile list ss, short, short′) ∷ []) a
+  reduce-passed lent z slip short {slip′} {short′} {a} p =
+      passed (listStart list lent) [] (omega arith) (z)
+      (subst (λ (f : List ℕ). Of (slipFile list ss) f) (left-file list ss (d .cells) reduce-after)
+      (subst (λ (f : List ℕ). Of f (leftFile n points (graphOf slots w1′))) slip-same p))
+    where
+      Of : List ℕ → List ℕ → Type 0
+      Of f g = Does [] ((f, slip, slip′) ∷ (g, short, short′) ∷ []) a

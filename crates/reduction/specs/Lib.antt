@@ -5,3 +5,4 @@ pub mod Running
 pub mod Pairs
 pub mod Loads
 pub mod Writing
+pub mod Starting

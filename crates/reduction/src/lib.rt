@@ -2,6 +2,7 @@
 mod calls;
 pub mod lists;
 pub mod running;
+pub mod starting;
 
 use cellfile::work;
 ghost use mathlib.Core.Path.{_≡_};

@@ -1,1 +1,6 @@
 -- The laws of the heaviest pairing of a set.
+pub mod Places
+pub mod Heavy
+pub mod Tried
+pub mod Known
+pub mod Found

@@ -1,2 +1,3 @@
 -- The heaviest pairing of a set of at most 12 cells.
 pub mod Sets
+pub mod Tries

@@ -1,48 +1,29 @@
--- `reduce_in` answers the first of refusals 1 to 6, or what `reduce_list` answers.
-use mathlib.Core.Path.{refl, sym, ap, _∙_}
+-- `reduce_in` answers what the start refuses, or what `write_both` answers.
+use mathlib.Core.Path.{refl, subst}
 use mathlib.Core.List.{[]}
-use Rattle.cellfile.specs.Answers.{checked}
-use Rattle.cellfile.proofs.Weights.{list-accepted}
-use Rattle.reduction.proofs.Layers.{few-first, few-second, enough-words, list-refused, list-passed}
-use Rattle.reduction.proofs.Courses.{list-there}
+use Rattle.cellfile.specs.Files.{lent}
+use Rattle.reduction.specs.Starting.{listStart, Starts}
+use Rattle.reduction.proofs.Layers.{refused}
+use Rattle.reduction.proofs.Starts.{started, not-started}
+use Rattle.reduction.proofs.Reducing.{reduce-left, reduce-passed}
 use borrow.Author.Needs.{needs}
 use Rattle.reduction.proofs.calls.reduce_in.Statement.{statement}
 use Rattle.reduction.proofs.calls.reduce_in.Tie as tie
 
-returns : tie.Need-returns
-returns c =
-    few-first _ _ _ (c .if1 .taken) (refl, (refl, tt))
+start-reduce-requires : tie.Need-start-reduce-requires
+start-reduce-requires c κs = search needs
 
-returns-2 : tie.Need-returns-2
-returns-2 c =
-    few-second _ _ _ (c .before .if1 .left) (c .if2 .taken) (refl, (refl, tt))
-
-check-list-requires : tie.Need-check-list-requires
-check-list-requires c κs = search needs
-
-enum-known-r : tie.Need-enum-known-r
-enum-known-r c = search needs
+enum-known-k : tie.Need-enum-known-k
+enum-known-k c = search needs
 
 enum-known-n : tie.Need-enum-known-n
 enum-known-n c = search needs
 
-reduce-list-requires : tie.Need-reduce-list-requires
-reduce-list-requires c κs =
-    let at-n = c .before .before .before .before .before in
-    let at-check-list = at-n .before .before in
-    let at-if2 = at-check-list .before in
-    let at-if1 = at-if2 .before in
-    let e = ap checked (sym (at-n .n .given .1)) ∙ at-check-list .check-list .ensures in
-    list-there e (at-if1 .if1 .left) (at-if2 .if2 .left)
-
-returns-3 : tie.Need-returns-3
-returns-3 c =
-    let at-r = c .before in
-    let at-check-list = at-r .before .before in
-    let at-if2 = at-check-list .before in
-    let at-if1 = at-if2 .before in
-    let e = ap checked (sym (at-r .r .given .1)) ∙ at-check-list .check-list .ensures in
-    enough-words _ _ _ (at-if1 .if1 .left) (at-if2 .if2 .left) (list-refused _ [] e (refl, (refl, tt)))
+write-both-requires : tie.Need-write-both-requires
+write-both-requires c κs =
+    let a = c .before .before .before .before .before .before .before .before .before .before .before .before .before .before .before .before .before .before .before .args in
+    let s = subst (Starts _ _ _ _ _) (c .before .before .before .before .before .n .given .1) (c .before .before .before .before .before .before .before .before .before .before .before .start-reduce .ensures) in
+    reduce-left (a .list .now) (started _ _ _ _ _ _ _ _ _ _ s .1)
 
 same-length : tie.Need-same-length
 same-length c = search needs
@@ -50,36 +31,46 @@ same-length c = search needs
 same-length-2 : tie.Need-same-length-2
 same-length-2 c = search needs
 
+returns : tie.Need-returns
+returns c =
+    let a = c .before .before .before .before .before .before .before .before .before .before .before .before .before .before .before .args in
+    let s = subst (Starts _ _ _ _ _) (c .before .k .given .1) (c .before .before .before .before .before .before .before .start-reduce .ensures) in
+    refused (listStart (a .list .now) (lent (a .work-a .now) (a .work-b .now))) [] 0 []
+    (not-started _ _ _ _ _ _ s) (refl, (refl, tt))
+
 same-length-3 : tie.Need-same-length-3
 same-length-3 c = search needs
 
 same-length-4 : tie.Need-same-length-4
 same-length-4 c = search needs
 
-returns-4 : tie.Need-returns-4
-returns-4 c =
-    let at-reduce-list = c .before .before .before .before .before .before .before .before in
-    let at-n = at-reduce-list .before .before .before .before .before .before in
-    let at-check-list = at-n .before .before in
-    let at-if2 = at-check-list .before in
-    let at-if1 = at-if2 .before in
-    let e = ap checked (sym (at-n .n .given .1)) ∙ at-check-list .check-list .ensures in
-    enough-words _ _ _ (at-if1 .if1 .left) (at-if2 .if2 .left)
-    (list-passed _ [] (list-accepted _ e .0) (at-reduce-list .reduce-list .ensures))
+same-length-5 : tie.Need-same-length-5
+same-length-5 c = search needs
+
+same-length-6 : tie.Need-same-length-6
+same-length-6 c = search needs
+
+returns-2 : tie.Need-returns-2
+returns-2 c =
+    let a = c .before .before .before .before .before .before .before .before .before .before .before .before .before .before .before .before .before .before .before .before .before .before .before .before .before .before .args in
+    let s = subst (Starts _ _ _ _ _) (c .before .before .before .before .before .before .before .before .before .before .before .before .n .given .1) (c .before .before .before .before .before .before .before .before .before .before .before .before .before .before .before .before .before .before .start-reduce .ensures) in
+    let d = started _ _ _ _ _ _ _ _ _ _ s in
+    reduce-passed (a .list .now) (d .1) (lent (a .work-a .now) (a .work-b .now)) (d .0)
+    (a .slip .now) (a .short .now) (c .before .before .before .before .before .before .write-both .ensures)
 
 pub reduce-in-spec : {M : Type 1} → statement M
 reduce-in-spec =
     tie.close
     (tie.spec
-    returns
-    returns-2
-    check-list-requires
-    enum-known-r
+    start-reduce-requires
+    enum-known-k
     enum-known-n
-    reduce-list-requires
-    returns-3
+    write-both-requires
     same-length
     same-length-2
+    returns
     same-length-3
     same-length-4
-    returns-4)
+    same-length-5
+    same-length-6
+    returns-2)

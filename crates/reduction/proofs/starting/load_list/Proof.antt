@@ -1,8 +1,8 @@
 -- `load_list` clears the second buffer, which then holds the empty graph, and loads the list.
 use Rattle.slots.proofs.Graphs.{holds-empty}
 use borrow.Author.Needs.{needs}
-use Rattle.reduction.proofs.calls.load_list.Statement.{statement}
-use Rattle.reduction.proofs.calls.load_list.Tie as tie
+use Rattle.reduction.proofs.starting.load_list.Statement.{statement}
+use Rattle.reduction.proofs.starting.load_list.Tie as tie
 
 clear-requires : tie.Need-clear-requires
 clear-requires c κs = search needs

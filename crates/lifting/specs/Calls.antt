@@ -1,0 +1,101 @@
+-- Solve, lift and pair: what the calls answer and write.
+use mathlib.Core.Bool.{cond}
+use mathlib.Core.List.{List, [], _∷_, _++_, map}
+use mathlib.Core.Option.{some, none}
+use Prim.Native.Nat.{ℕ, zero, suc}
+use lib.Dec.{ltb}
+use lib.ListN.{length}
+use Rattle.matching.specs.Pairs.{Pair, Points}
+use Rattle.matching.specs.Listed.{filed}
+use Rattle.matching.specs.Graph.{degree, cellsLeft}
+use Rattle.matching.specs.Steps.{Step}
+use Rattle.matching.specs.Slip.{left, lift}
+use Rattle.matching.specs.Solve.{solve}
+use Rattle.cellfile.specs.Files.{storeList, pairing as pairingLayout, cellsOf, stepsOf, pairsOf, writeFile}
+use Rattle.cellfile.specs.Refusals.{Row, first, fewWords, listRows, badSlip, disallowed, badPairing, noPairing}
+use Rattle.cellfile.specs.Refusals.{crowded, shortOutput}
+use Rattle.cellfile.specs.Answers.{Answer, answer}
+use Rattle.reduction.specs.Calls.{graphIn, stepsOn, stand, reduceSteps}
+use Rattle.lifting.specs.declared.Paired.{Paired}
+use Rattle.lifting.specs.declared.Paired.the-variants.{Refused, Length}
+
+-- The number and the values of each case of the answer enum: the length of the pairing's file.
+abbrev pub paired : Paired → Answer
+paired (Refused k) = (k, [])
+paired (Length m) = (0, m ∷ [])
+
+-- A pairing as a file.
+abbrev pub pairFields : Pair → List ℕ
+pairFields e = e .0 ∷ e .1 ∷ 0 ∷ []
+
+abbrev pub pairFile : ℕ → List Pair → List ℕ
+pairFile n m = writeFile pairingLayout (record { cells = n; extra = []; entries = map pairFields (filed m) })
+
+-- The cells below k that have pairs, ascending; 'a heaviest pairing of the remaining graph'.
+unfoldable pub withPairs : ℕ → Points → ℕ → List ℕ
+withPairs n w zero = []
+withPairs n w (suc k) = withPairs n w k ++ cond (ltb 0 (degree n w k)) (k ∷ []) []
+
+abbrev pub solution : ℕ → Points → List Pair
+solution n w = solve n w (withPairs n w n)
+
+-- What the calls write, and their answers, for the lengths of the work buffers and of the output.
+module _ (list : List ℕ) where
+  abbrev pub cells : ℕ
+  cells = cellsOf list
+
+  -- The graph that steps leave, its solution, and a pairing of it brought back to the list, as files.
+  abbrev pub graphAfter : List Step → Points
+  graphAfter ss = left (graphIn list) ss
+
+  abbrev pub solvedFile : List Step → List ℕ
+  solvedFile ss = pairFile cells (solution cells (graphAfter ss))
+
+  abbrev pub liftedFile : List Step → List Pair → List ℕ
+  liftedFile ss m = pairFile cells (lift (graphIn list) ss m)
+
+  -- By the steps of the slip; where one is not allowed, x, which does not count.
+  abbrev pub bySteps : {A : Type 0} → List ℕ → A → (List Step → A) → A
+  bySteps slip x f = elim (stepsOn list (stepsOf slip)) [ none ↦ x | some ss ↦ f ss ]
+
+  abbrev pub slipRows : List ℕ → List Row
+  slipRows slip = (7, badSlip cells slip) ∷ (8, disallowed (stand list) slip) ∷ []
+
+  -- The rows of a call between 1 and 12, and its answer.
+  abbrev pub answering : List Row → List ℕ → ℕ → List ℕ → Answer
+  answering rows lent room file =
+      answer (first ((1, fewWords lent) ∷ (listRows storeList list ++ (rows ++ (12, shortOutput ((room, length file) ∷ []))
+      ∷ [])))) (length file ∷ [])
+
+  -- Solve.
+  abbrev pub solveFile : List ℕ → List ℕ
+  solveFile slip = bySteps slip [] solvedFile
+
+  abbrev pub solving : List ℕ → List ℕ → ℕ → Answer
+  solving slip lent room = answering (slipRows slip ++ (11, crowded left-cells) ∷ []) lent room (solveFile slip)
+    where
+      left-cells : ℕ
+      left-cells = bySteps slip 0 (λ ss. cellsLeft cells (graphAfter ss))
+
+  -- Lift.
+  abbrev pub liftFile : List ℕ → List ℕ → List ℕ
+  liftFile slip pairing = bySteps slip [] (λ ss. liftedFile ss (pairsOf pairing))
+
+  abbrev pub lifting : List ℕ → List ℕ → List ℕ → ℕ → Answer
+  lifting slip pairing lent room =
+      answering (slipRows slip ++ (9, badPairing cells pairing) ∷ (10, noPairing there (pairsOf pairing)) ∷ []) lent room
+      (liftFile slip pairing)
+    where
+      there : Points
+      there = bySteps slip (graphIn list) graphAfter
+
+  -- Pair: reduce, solve, lift.
+  abbrev pub pairingFile : List ℕ
+  pairingFile = liftedFile reduceSteps′ (solution cells (graphAfter reduceSteps′))
+    where
+      reduceSteps′ : List Step
+      reduceSteps′ = reduceSteps list
+
+  abbrev pub pairing : List ℕ → ℕ → Answer
+  pairing lent room =
+      answering ((11, crowded (cellsLeft cells (graphAfter (reduceSteps list)))) ∷ []) lent room pairingFile

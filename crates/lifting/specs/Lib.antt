@@ -1,0 +1,7 @@
+-- Solving what a slip leaves, lifting a pairing through a slip, and pairing a list.
+pub mod Calls
+pub mod Left
+pub mod Gathered
+pub mod Back
+pub mod Table
+pub mod Entering
