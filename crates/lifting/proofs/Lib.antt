@@ -6,3 +6,9 @@ pub mod Tabled
 pub mod Missing
 pub mod Filling
 pub mod Entering
+pub mod Mating
+pub mod Marking
+pub mod Freeing
+pub mod Undoing
+pub mod Closing
+pub mod Backing

@@ -5,3 +5,5 @@ pub mod Gathered
 pub mod Back
 pub mod Table
 pub mod Entering
+pub mod Unwinding
+pub mod Ending

@@ -1,4 +1,5 @@
 // Solving what a slip leaves, lifting a pairing through a slip, and pairing a list.
+pub mod back;
 pub mod solving;
 pub mod table;
 
