@@ -12,3 +12,4 @@ pub mod Freeing
 pub mod Undoing
 pub mod Closing
 pub mod Backing
+pub mod Claim

@@ -7,3 +7,4 @@ pub mod Table
 pub mod Entering
 pub mod Unwinding
 pub mod Ending
+pub mod Demand

@@ -102,8 +102,8 @@ module _ (list : List ℕ) (h : first (listRows storeList list) ≡ 0) where
   pub list-graph : Graph (cellsOf list) (graphIn list)
   list-graph = listed-graph (cellsOf list) (entriesOf storeList list) (list-accepted list h .1)
 
-  few : length (entriesOf storeList list) ≤ 4096
-  few =
+  pub list-few : length (entriesOf storeList list) ≤ 4096
+  list-few =
       omega (
         arith,
         list-room list {m = countOf list} h refl,
@@ -117,7 +117,7 @@ module _ (list : List ℕ) (h : first (listRows storeList list) ≡ 0) where
       omega (
         arith,
         left-bound (cellsOf list) (entriesOf storeList list) (list-accepted list h .1) rs ss allowed a b,
-        total-fits 20 (entriesOf storeList list) (points-fit (countOf list) (drop 4 list)) few,
+        total-fits 20 (entriesOf storeList list) (points-fit (countOf list) (drop 4 list)) list-few,
       )
 
   pub run-there : {n e m : ℕ} {slip w1 w2 : List ℕ} → n ≡ cellsOf list → Loaded list e w1 w2 → m < 8192
