@@ -13,3 +13,6 @@ pub mod Undoing
 pub mod Closing
 pub mod Backing
 pub mod Claim
+pub mod Pairs
+pub mod Solution
+pub mod Solves

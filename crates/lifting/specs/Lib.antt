@@ -7,4 +7,5 @@ pub mod Table
 pub mod Entering
 pub mod Unwinding
 pub mod Ending
+pub mod Solving
 pub mod Demand

@@ -1,10 +1,40 @@
 // Solving what a slip leaves, lifting a pairing through a slip, and pairing a list.
 pub mod back;
+mod calls;
+mod ends;
 pub mod solving;
 pub mod table;
+
+use cellfile::work;
+ghost use mathlib.Core.Path.{_≡_};
+ghost use lib.ListN.{length};
+ghost use Rattle.cellfile.specs.Files.{lent, Cleared};
+ghost use Rattle.reduction.specs.Calls.{written};
+ghost use Rattle.lifting.specs.Calls.{paired, solving, solveFile};
 
 // The answer of solve, lift and pair: a refusal's number, or the length of the pairing.
 pub enum Paired {
     Refused(u32),
     Length(usize),
+}
+
+// Solves what the slip leaves of the list and writes the pairing. Every word of the work buffers is zero afterwards.
+pub fn solve(
+    list: &[u8],
+    slip: &[u8],
+    work_a: &mut [u64],
+    work_b: &mut [u64],
+    pairing: &mut [u8],
+) -> Paired
+    ensures answer { λ r. ⌜ paired r ≡ solving (now (list .entry)) (now (slip .entry))
+        (lent (now («work_a» .entry)) (now («work_b» .entry))) (length (now (pairing .entry))) ⌝ }
+    ensures output { λ r. ⌜ now (pairing .exit) ≡ written (paired r .0)
+        (solveFile (now (list .entry)) (now (slip .entry))) (now (pairing .entry)) ⌝ }
+    ensures cleared { λ _. ⌜ Cleared (now («work_a» .entry)) (now («work_a» .exit))
+        × Cleared (now («work_b» .entry)) (now («work_b» .exit)) ⌝ }
+{
+    let r = calls::solve_in(list, slip, work_a, work_b, pairing);
+    work::clear(work_a);
+    work::clear(work_b);
+    r
 }

@@ -1,0 +1,108 @@
+-- Solve. In order: of a graph in the slots, refusal 11 (`tail-crowded`), room for the words of the solution
+-- (`tail-room`), and the file that they make (`tail-written`); what the start refuses (`solve-refused`); what a slip
+-- leaves may be solved (`solve-left`), and that is what solve is to write (`solve-passed`). Assumes nothing.
+use mathlib.Core.Path.{_≡_, refl, sym, ap, subst, _∙_}
+use mathlib.Core.List.{List, [], _∷_, map}
+use mathlib.Core.Option.{Option, some, none}
+use Prim.Native.Nat.{ℕ, _≤_, _<_}
+use native.Mathlib.Omega.{arith}
+use borrow.Author.Tests.{lt-ltb, le-ltb}
+use lib.ListN.{length}
+use Rattle.matching.specs.Pairs.{Pair, Points}
+use Rattle.matching.specs.Graph.{cellsLeft}
+use Rattle.matching.specs.Steps.{Step}
+use Rattle.matching.proofs.Sums.{each-map}
+use Rattle.cellfile.specs.Files.{pairing as pairingLayout, writeFile, cellsOf, stepsOf}
+use Rattle.cellfile.specs.Refusals.{first}
+use Rattle.cellfile.specs.Answers.{Answer, answer}
+use Rattle.slots.specs.Slots.{graphOf}
+use Rattle.reduction.specs.Calls.{asName, stepsOn}
+use Rattle.reduction.specs.Writing.{Does}
+use Rattle.reduction.specs.Starting.{slipStart, StartDone}
+use Rattle.reduction.proofs.Layers.{refused, passed}
+use Rattle.reduction.proofs.Courses.{left-there}
+use Rattle.lifting.specs.Calls.{pairFields, pairFile, solution, graphAfter, solvedFile, solveFile, bySteps}
+use Rattle.lifting.specs.Left.{LeftThere, SolvedIn}
+use Rattle.lifting.specs.Ending.{wordsFile}
+use Rattle.lifting.specs.Solving.{crowdedRow, solveRows}
+use Rattle.lifting.proofs.Pairs.{pairs-file}
+use Rattle.lifting.proofs.Solution.{solution-filed, solution-cells}
+
+-- ---- a graph in the slots
+
+module _ {n e : ℕ} {w1 w2 : List ℕ} (h : LeftThere n e w1 w2) where
+  abbrev w : Points
+  w = graphOf e w1
+
+  abbrev file : List ℕ
+  file = pairFile n (solution n w)
+
+  pub tail-crowded : (out : List ℕ) → 12 < cellsLeft n w
+      → Does (crowdedRow (cellsLeft n w) ∷ []) ((file, out, out) ∷ []) (11, [])
+  tail-crowded out l =
+      refused (crowdedRow (cellsLeft n w) ∷ []) [] 0 [] (rw (lt-ltb 12 (cellsLeft n w) l)) (refl, tt)
+
+  module _ {r : ℕ} {w1′ w2′ : List ℕ} (s : SolvedIn n w w1′ w2 w2′ r) where
+    pub tail-room : length w1′ ≡ length w1 → (n ≤ 1024) × (r ≤ 512) × (512 ≤ length w1′)
+    tail-room q = (h .cells, omega (arith, s .most), omega (arith, h .holds .room1))
+
+    words : wordsFile n r w1′ ≡ file
+    words =
+        pairs-file n r w1′ (solution n w) (s .pairs)
+        (each-map (λ a b p. (omega (arith, h .cells, p .0), omega (arith, h .cells, p .1))) (solution n w)
+        (solution-cells n w))
+        ∙ ap (λ (m : List Pair). writeFile pairingLayout (record {
+          cells = n;
+          extra = [];
+          entries = map pairFields m;
+        })) (sym (solution-filed n w))
+
+    pub tail-written : (out : List ℕ) {out′ : List ℕ} {a : Answer} → Does [] ((wordsFile n r w1′, out, out′) ∷ []) a
+        → Does (crowdedRow (cellsLeft n w) ∷ []) ((file, out, out′) ∷ []) a
+    tail-written out {out′} {a} d =
+        passed (crowdedRow (cellsLeft n w) ∷ []) [] (omega arith, tt) (rw (le-ltb 12 (cellsLeft n w) (s .few)))
+        (subst (λ f. Does [] ((f, out, out′) ∷ []) a) words d)
+
+-- ---- what a slip leaves
+
+abbrev leftCells : List ℕ → List ℕ → ℕ
+leftCells list slip = bySteps list slip 0 (λ ss. cellsLeft (cellsOf list) (graphAfter list ss))
+
+pub solve-refused : (list slip lent out : List ℕ) {k : ℕ}
+    → (k, []) ≡ answer (first (slipStart list slip lent)) (0 ∷ [])
+    → Does (solveRows list slip lent) ((solveFile list slip, out, out) ∷ []) (k, [])
+solve-refused list slip lent out e =
+    refused (slipStart list slip lent) (crowdedRow (leftCells list slip) ∷ []) 0 [] e (refl, tt)
+
+module _ (list slip : List ℕ) {n slots trail points steps : ℕ} {w1′ w2′ : List ℕ}
+    (d : StartDone list (stepsOn list (stepsOf slip)) n slots trail points steps w1′ w2′) where
+  pub solve-left : LeftThere n slots w1′ w2′
+  solve-left =
+      let l =
+      left-there list (d .accepted) (map asName (stepsOf slip)) (d .taken) (d .steps-are) (d .cells) (d .after) in
+      record { holds = d .after .holds; cells = l .cells; graph = l .graph; small = l .small }
+
+  -- by the steps taken
+  by-steps : {A : Type 0} (x : A) (f : List Step → A) → f (d .taken) ≡ bySteps list slip x f
+  by-steps x f = ap (λ (o : Option (List Step)). elim o [ none ↦ x | some ss ↦ f ss ]) (sym (d .steps-are))
+
+  graph-left : {A : Type 0} (f : ℕ → Points → A)
+      → f n (graphOf slots w1′) ≡ f (cellsOf list) (graphAfter list (d .taken))
+  graph-left f =
+      ap (λ (i : ℕ). f i (graphOf slots w1′)) (d .cells) ∙ ap (f (cellsOf list)) (d .after .graph)
+
+  pub solve-passed : (lent : List ℕ) → first (slipStart list slip lent) ≡ 0 → (out : List ℕ) {out′ : List ℕ}
+      {a : Answer}
+      → Does (crowdedRow (cellsLeft n (graphOf slots w1′)) ∷ [])
+      ((pairFile n (solution n (graphOf slots w1′)), out, out′) ∷ []) a
+      → Does (solveRows list slip lent) ((solveFile list slip, out, out′) ∷ []) a
+  solve-passed lent z out {out′} {a} p =
+      passed (slipStart list slip lent) (crowdedRow (leftCells list slip) ∷ []) (omega arith) z
+      (subst (λ k. Does (crowdedRow k ∷ []) ((solveFile list slip, out, out′) ∷ []) a) count
+      (subst (λ file. Does (crowdedRow (cellsLeft n (graphOf slots w1′)) ∷ []) ((file, out, out′) ∷ []) a) same p))
+    where
+      count : cellsLeft n (graphOf slots w1′) ≡ leftCells list slip
+      count = graph-left cellsLeft ∙ by-steps 0 (λ ss. cellsLeft (cellsOf list) (graphAfter list ss))
+
+      same : pairFile n (solution n (graphOf slots w1′)) ≡ solveFile list slip
+      same = graph-left (λ i v. pairFile i (solution i v)) ∙ by-steps [] (solvedFile list)

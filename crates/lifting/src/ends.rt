@@ -1,0 +1,23 @@
+// The end of a call: its pairing is written. See specs/Ending.
+use crate::Paired;
+use cellfile::write;
+ghost use mathlib.Core.List.{_∷_, []};
+ghost use Prim.Native.Nat.{_≤_};
+ghost use lib.ListN.{length};
+ghost use Rattle.reduction.specs.Writing.{Does};
+ghost use Rattle.lifting.specs.Calls.{paired};
+ghost use Rattle.lifting.specs.Ending.{wordsFile};
+
+// Refusal 12 and the pairing of n cells whose pairs are the first r words.
+pub fn write_pairs(n: usize, w1: &[u64], r: usize, out: &mut [u8]) -> Paired
+    requires { ⌜ (n ≤ 1024) × (r ≤ 512) × (512 ≤ length (now w1)) ⌝ }
+    ensures { λ a. ⌜ Does []
+        ((wordsFile n r (now (w1 .entry)), now (out .entry), now (out .exit)) ∷ []) (paired a) ⌝ }
+{
+    let size = 4 + 3 * r;
+    if out.len() < size {
+        return Paired::Refused(12);
+    }
+    write::write_pairing(n, w1, r, out);
+    Paired::Length(size)
+}
