@@ -16,3 +16,5 @@ pub mod Claim
 pub mod Pairs
 pub mod Solution
 pub mod Solves
+pub mod Returning
+pub mod Lifting

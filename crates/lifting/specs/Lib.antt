@@ -8,4 +8,5 @@ pub mod Entering
 pub mod Unwinding
 pub mod Ending
 pub mod Solving
+pub mod Lifting
 pub mod Demand

@@ -1,12 +1,14 @@
 // The end of a call: its pairing is written. See specs/Ending.
 use crate::Paired;
+use crate::back;
+use crate::table;
 use cellfile::write;
 ghost use mathlib.Core.List.{_∷_, []};
 ghost use Prim.Native.Nat.{_≤_};
 ghost use lib.ListN.{length};
 ghost use Rattle.reduction.specs.Writing.{Does};
 ghost use Rattle.lifting.specs.Calls.{paired};
-ghost use Rattle.lifting.specs.Ending.{wordsFile};
+ghost use Rattle.lifting.specs.Ending.{wordsFile, ReturnThere, Returns};
 
 // Refusal 12 and the pairing of n cells whose pairs are the first r words.
 pub fn write_pairs(n: usize, w1: &[u64], r: usize, out: &mut [u8]) -> Paired
@@ -20,4 +22,14 @@ pub fn write_pairs(n: usize, w1: &[u64], r: usize, out: &mut [u8]) -> Paired
     }
     write::write_pairing(n, w1, r, out);
     Paired::Length(size)
+}
+
+// Brings the pairing in the table back over the trail of t words, and writes it; refusal 12.
+pub fn bring_back(n: usize, t: usize, w1: &mut [u64], w2: &mut [u64], out: &mut [u8]) -> Paired
+    requires { ⌜ ReturnThere n t (now w1) (now w2) ⌝ }
+    ensures { λ a. ⌜ Returns n t (now (w1 .entry)) (now (w2 .entry)) (now (out .entry)) (now (out .exit)) (paired a) ⌝ }
+{
+    back::lift_back(w1, w2, t);
+    let r = table::list_pairs(w1, w2, n);
+    write_pairs(n, w1, r, out)
 }

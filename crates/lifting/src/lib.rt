@@ -10,7 +10,7 @@ ghost use mathlib.Core.Path.{_≡_};
 ghost use lib.ListN.{length};
 ghost use Rattle.cellfile.specs.Files.{lent, Cleared};
 ghost use Rattle.reduction.specs.Calls.{written};
-ghost use Rattle.lifting.specs.Calls.{paired, solving, solveFile};
+ghost use Rattle.lifting.specs.Calls.{paired, solving, solveFile, lifting, liftFile};
 
 // The answer of solve, lift and pair: a refusal's number, or the length of the pairing.
 pub enum Paired {
@@ -34,6 +34,28 @@ pub fn solve(
         × Cleared (now («work_b» .entry)) (now («work_b» .exit)) ⌝ }
 {
     let r = calls::solve_in(list, slip, work_a, work_b, pairing);
+    work::clear(work_a);
+    work::clear(work_b);
+    r
+}
+
+// Lifts the pairing of what the slip leaves to the list. Every word of the work buffers is zero afterwards.
+pub fn lift(
+    list: &[u8],
+    slip: &[u8],
+    pairing: &[u8],
+    work_a: &mut [u64],
+    work_b: &mut [u64],
+    lifted: &mut [u8],
+) -> Paired
+    ensures answer { λ r. ⌜ paired r ≡ lifting (now (list .entry)) (now (slip .entry)) (now (pairing .entry))
+        (lent (now («work_a» .entry)) (now («work_b» .entry))) (length (now (lifted .entry))) ⌝ }
+    ensures output { λ r. ⌜ now (lifted .exit) ≡ written (paired r .0)
+        (liftFile (now (list .entry)) (now (slip .entry)) (now (pairing .entry))) (now (lifted .entry)) ⌝ }
+    ensures cleared { λ _. ⌜ Cleared (now («work_a» .entry)) (now («work_a» .exit))
+        × Cleared (now («work_b» .entry)) (now («work_b» .exit)) ⌝ }
+{
+    let r = calls::lift_in(list, slip, pairing, work_a, work_b, lifted);
     work::clear(work_a);
     work::clear(work_b);
     r
