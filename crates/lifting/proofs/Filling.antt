@@ -39,7 +39,7 @@ trail-set w c x j l = getD-set-other w (4096 + c) j x 0 (omega arith)
 table-same : (w : List ℕ) (c x : ℕ) → 8192 ≤ length w → c < 1024 → mateAt (set w (4096 + c) x) c ≡ x
 table-same w c x room l = getD-set-same w (4096 + c) x 0 (omega arith)
 
-table-other : (w : List ℕ) (c x d : ℕ) → d ≢ c → mateAt (set w (4096 + c) x) d ≡ mateAt w d
+pub table-other : (w : List ℕ) (c x d : ℕ) → d ≢ c → mateAt (set w (4096 + c) x) d ≡ mateAt w d
 table-other w c x d n = getD-set-other w (4096 + c) (4096 + d) x 0 (λ e. n (omega arith))
 
 -- ---- the table emptied
@@ -74,7 +74,7 @@ empty-end p l = (λ d k. p .zeros d (omega arith), p .aside)
 abbrev some : ℕ → ℕ
 some x = ι (ltb 0 x)
 
-some-not : (x : ℕ) → x ≢ 0 → some x ≡ 1
+pub some-not : (x : ℕ) → x ≢ 0 → some x ≡ 1
 some-not x n = rw (lt-ltb 0 x (omega arith))
 
 some-most : (x : ℕ) → some x ≤ 1
@@ -99,7 +99,7 @@ pub record Filling (all rest : List Pair) (w v : List ℕ) : Type 0 where
   pub hits : (c : ℕ) → c < 1024 → sum (hit c) all ≡ ι (ltb 0 (mateAt v c)) + sum (hit c) rest
   pub aside : TrailKept w v
 
-fill-start : (all : List Pair) (w : List ℕ) → Empty w → Filling all all w w
+pub fill-start : (all : List Pair) (w : List ℕ) → Empty w → Filling all all w w
 fill-start all w h = record {
   mates = λ c l. omega (arith, h c l);
   hits = λ c l. rw (h c l) (omega arith);

@@ -18,3 +18,5 @@ pub mod Solution
 pub mod Solves
 pub mod Returning
 pub mod Lifting
+pub mod Wording
+pub mod Tailing

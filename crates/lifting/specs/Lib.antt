@@ -7,6 +7,8 @@ pub mod Table
 pub mod Entering
 pub mod Unwinding
 pub mod Ending
+pub mod Words
+pub mod Tail
 pub mod Solving
 pub mod Lifting
 pub mod Demand

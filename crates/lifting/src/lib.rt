@@ -2,6 +2,7 @@
 pub mod back;
 mod calls;
 mod ends;
+mod pairing;
 pub mod solving;
 pub mod table;
 
@@ -11,6 +12,7 @@ ghost use lib.ListN.{length};
 ghost use Rattle.cellfile.specs.Files.{lent, Cleared};
 ghost use Rattle.reduction.specs.Calls.{written};
 ghost use Rattle.lifting.specs.Calls.{paired, solving, solveFile, lifting, liftFile};
+ghost use Rattle.lifting.specs.Calls.{pairing as pairingAnswer, pairingFile};
 
 // The answer of solve, lift and pair: a refusal's number, or the length of the pairing.
 pub enum Paired {
@@ -56,6 +58,22 @@ pub fn lift(
         × Cleared (now («work_b» .entry)) (now («work_b» .exit)) ⌝ }
 {
     let r = calls::lift_in(list, slip, pairing, work_a, work_b, lifted);
+    work::clear(work_a);
+    work::clear(work_b);
+    r
+}
+
+// Reduces the list, solves what is left and lifts it: a heaviest pairing of the list. Every word of the work buffers is
+// zero afterwards.
+pub fn pair(list: &[u8], work_a: &mut [u64], work_b: &mut [u64], pairing: &mut [u8]) -> Paired
+    ensures answer { λ r. ⌜ paired r ≡ pairingAnswer (now (list .entry))
+        (lent (now («work_a» .entry)) (now («work_b» .entry))) (length (now (pairing .entry))) ⌝ }
+    ensures output { λ r. ⌜ now (pairing .exit) ≡ written (paired r .0) (pairingFile (now (list .entry)))
+        (now (pairing .entry)) ⌝ }
+    ensures cleared { λ _. ⌜ Cleared (now («work_a» .entry)) (now («work_a» .exit))
+        × Cleared (now («work_b» .entry)) (now («work_b» .exit)) ⌝ }
+{
+    let r = pairing::pair_in(list, work_a, work_b, pairing);
     work::clear(work_a);
     work::clear(work_b);
     r

@@ -6,8 +6,10 @@ ghost use Prim.Native.Nat.{_+_, _*_, _≤_, _<_};
 ghost use lib.ListN.{length, take, drop};
 ghost use Rattle.matching.specs.Pairs.{Pair, Points};
 ghost use Rattle.cellfile.specs.Loops.{pairs};
+ghost use Rattle.lifting.specs.Back.{Mates};
 ghost use Rattle.lifting.specs.Table.{FileThere, TrailKept, Entered, TableThere, Listed};
 ghost use Rattle.lifting.specs.Entering.{wordKey, pairKey, absent, Empty, Filled};
+ghost use Rattle.lifting.specs.Words.{WordsThere};
 
 // Where the table stands in the second buffer, and its words.
 const TABLE: usize = 4096;
@@ -117,4 +119,31 @@ pub fn enter(pairing: &[u8], k: usize, w1: &[u64], r: usize, w2: &mut [u64], n: 
     }
     clear_table(w2);
     fill(pairing, k, w2)
+}
+
+// The pairs of the first r words go into the table, which is empty before.
+fn fill_words(w1: &[u64], r: usize, w2: &mut [u64])
+    requires { ⌜ ((m : List Pair) × WordsThere m r (now w1) (now w2)) × Empty (now w2) ⌝ }
+    ensures { λ _. ⌜ ((m : List Pair) → WordsThere m r (now (w1 .entry)) (now (w2 .entry))
+        → Mates (now (w2 .exit)) m × TrailKept (now (w2 .entry)) (now (w2 .exit))) ⌝ }
+{
+    let mut i = 0;
+    while i < r {
+        let word = w1[i];
+        let a = (word / CELL_A % CELLS as u64) as usize;
+        let b = (word / CELL_B % CELLS as u64) as usize;
+        w2[TABLE + a] = b as u64 + 1;
+        w2[TABLE + b] = a as u64 + 1;
+        i += 1;
+    }
+}
+
+// The pairs of the first r words go into the table.
+pub fn enter_words(w1: &[u64], r: usize, w2: &mut [u64])
+    requires { ⌜ ((m : List Pair) × WordsThere m r (now w1) (now w2)) ⌝ }
+    ensures { λ _. ⌜ ((m : List Pair) → WordsThere m r (now (w1 .entry)) (now (w2 .entry))
+        → Mates (now (w2 .exit)) m × TrailKept (now (w2 .entry)) (now (w2 .exit))) ⌝ }
+{
+    clear_table(w2);
+    fill_words(w1, r, w2);
 }

@@ -1,0 +1,48 @@
+// Inner functions of pair: see specs/Tail.
+use crate::Paired;
+use crate::ends;
+use crate::solving;
+use crate::solving::Solved;
+use crate::table;
+use reduction::starting;
+use reduction::starting::Started;
+ghost use mathlib.Core.List.{_∷_, [], _++_};
+ghost use Rattle.cellfile.specs.Files.{cellsOf, lent};
+ghost use Rattle.reduction.specs.Calls.{reduceSteps};
+ghost use Rattle.reduction.specs.Starting.{listStart};
+ghost use Rattle.reduction.specs.Writing.{Does};
+ghost use Rattle.lifting.specs.Calls.{paired, graphAfter, pairingFile};
+ghost use Rattle.lifting.specs.Tail.{TailThere, Tails, crowdRow};
+
+// Refusal 11; else the solution of what is left in e slots is brought back through the trail of t words and written.
+fn pair_tail(n: usize, e: usize, t: usize, w1: &mut [u64], w2: &mut [u64], out: &mut [u8]) -> Paired
+    requires { ⌜ TailThere n e t (now w1) (now w2) ⌝ }
+    ensures { λ r. ⌜ Tails n e t (now (w1 .entry)) (now (w2 .entry)) (now (out .entry)) (now (out .exit)) (paired r) ⌝ }
+{
+    match solving::solve_left(w1, w2, e, n) {
+        Solved::Crowded => Paired::Refused(11),
+        Solved::Pairs(r) => {
+            table::enter_words(w1, r, w2);
+            ends::bring_back(n, t, w1, w2, out)
+        }
+    }
+}
+
+// Pair, which leaves anything in the work buffers.
+pub fn pair_in(list: &[u8], work_a: &mut [u64], work_b: &mut [u64], out: &mut [u8]) -> Paired
+    ensures { λ r. ⌜ Does (listStart (now (list .entry)) (lent (now («work_a» .entry)) (now («work_b» .entry)))
+        ++ crowdRow (cellsOf (now (list .entry)))
+        (graphAfter (now (list .entry)) (reduceSteps (now (list .entry)))) ∷ [])
+        ((pairingFile (now (list .entry)), now (out .entry), now (out .exit)) ∷ []) (paired r) ⌝ }
+{
+    match starting::start_reduce(list, work_a, work_b) {
+        Started::Refused(k) => Paired::Refused(k),
+        Started::Done {
+            n,
+            slots,
+            trail,
+            carried: _,
+            steps: _,
+        } => pair_tail(n, slots, trail, work_a, work_b, out),
+    }
+}
