@@ -1,8 +1,8 @@
--- Demand 3 of the calls, one theorem: `demand-three`. In order: what is written is read again, the carried points of a
+-- Demand 3 of the calls: `demand-three` of replay and lift, `demand-pair` of pair. In order: what is written is read again, the carried points of a
 -- short list and the pairs of a pairing; the steps that a slip names; the claim. Assumes nothing.
 use mathlib.Core.Path.{_≡_, refl, sym, ap, ap₂, subst, _∙_}
 use mathlib.Core.Logic.{_≢_}
-use mathlib.Core.Bool.{Bool, true, false, not, false≢true}
+use mathlib.Core.Bool.{Bool, true, false, not, cond, false≢true}
 use mathlib.Core.List.{List, [], _∷_, map}
 use mathlib.Core.Option.{Option, some, none}
 use Prim.Native.Nat.{ℕ, _+_, _≤_, _<_}
@@ -12,9 +12,10 @@ use borrow.Author.Tests.{le-ltb}
 use Rattle.matching.specs.Lists.{All}
 use Rattle.matching.specs.Pairs.{Pair, Points, sum}
 use Rattle.matching.specs.Pairing.{Once, Pairing, Heaviest, isPairing}
+use Rattle.matching.specs.Graph.{cellsLeft}
 use Rattle.matching.specs.Listed.{Entry, Accepted, joined, listed, points, shortList, filed}
 use Rattle.matching.specs.Demand.{NoGainNoLoss}
-use Rattle.matching.specs.Steps.{Rule, Step}
+use Rattle.matching.specs.Steps.{Rule, Step, name}
 use Rattle.matching.specs.Slip.{replay, left, carried, lift, bring}
 use Rattle.matching.proofs.Alls.{all-map, each-is-all}
 use Rattle.matching.proofs.Sums.{each-map}
@@ -23,21 +24,25 @@ use Rattle.matching.proofs.Pairing.{is-pairing, present}
 use Rattle.matching.proofs.Entries.{joined-graph, list-trimmed}
 use Rattle.matching.proofs.Short.{short-entries}
 use Rattle.matching.proofs.Fits.{Stands}
-use Rattle.matching.proofs.Reduce.{replay-fits}
-use Rattle.matching.proofs.Demand.{slip-brought, no-gain-no-loss, short-fewer}
+use Rattle.matching.proofs.Tests.{Test, pass, fail, ltT}
+use Rattle.matching.proofs.Reduce.{replay-fits, reduce-ends}
+use Rattle.matching.proofs.Demand.{slip-graph, slip-brought, no-gain-no-loss, short-fewer}
 use Rattle.cellfile.specs.Files.{File, storeList, pairing as pairingLayout, shortList as shortLayout}
 use Rattle.cellfile.specs.Files.{cellsOf, entriesOf, stepsOf, asPair, pairsOf}
 use Rattle.cellfile.specs.Fits.{FitsFields, FitsFile}
 use Rattle.cellfile.specs.Refusals.{first, fewWords, listRows, shortOutput}
+use Rattle.cellfile.specs.Answers.{Answer, answer}
 use Rattle.cellfile.proofs.Rows.{list-none}
 use Rattle.cellfile.proofs.RoundTrip.{read-write}
 use Rattle.reduction.specs.Pairs.{asFields}
-use Rattle.reduction.specs.Calls.{graphIn, stand, stepsOn, shortFile, replayShort, asName}
+use Rattle.reduction.specs.Calls.{graphIn, stand, stepsOn, shortFile, replayShort, asName, reduceSteps}
+use Rattle.reduction.proofs.Reducing.{reduce-allowed}
 use Rattle.reduction.proofs.Loading.{list-accepted}
 use Rattle.reduction.proofs.Courses.{list-graph, list-few, left-small}
-use Rattle.lifting.specs.Calls.{pairFields, pairFile, liftedFile, liftFile, lifting}
-use Rattle.lifting.specs.Demand.{carriedOf, short, lifted, Passes, Claim}
+use Rattle.lifting.specs.Calls.{pairFields, pairFile, liftedFile, liftFile, lifting, solution, pairingFile, pairing}
+use Rattle.lifting.specs.Demand.{carriedOf, short, lifted, Passes, Claim, leftOver, PairClaim}
 use Rattle.lifting.proofs.Tabled.{Within, pairing-half}
+use Rattle.lifting.proofs.Solution.{solution-heaviest}
 
 -- ---- what is written is read again
 
@@ -241,3 +246,63 @@ demand-three list slip pairing h = go (stepsOn list (stepsOf slip)) refl
         absurd (false≢true (sym (ap (λ (o : Option (List Step)). elim o [ none ↦ false | some ss ↦ true ]) e)
         ∙ h .slip-stands))
     go (some ss) e = claimed list slip pairing h ss e
+
+-- ---- the claim of pair
+
+module _ (list : List ℕ) (h : first (listRows storeList list) ≡ 0) where
+  -- the solution of what reduce leaves is heaviest there
+  best-left : Heaviest (leftOver list) (leftOver list) (solution (cellsOf list) (leftOver list))
+  best-left =
+      solution-heaviest (cellsOf list) (leftOver list)
+      (slip-graph (list-graph list h) (reduceSteps list)
+      (replay-fits (list-graph list h) (map name (reduceSteps list)) (reduceSteps list) (reduce-allowed list h) .0))
+
+  best-store : Heaviest (joined (entriesOf storeList list)) (listed (entriesOf storeList list))
+      (pairsOf (pairingFile list))
+  best-store =
+      subst (Heaviest (joined (entriesOf storeList list)) (listed (entriesOf storeList list)))
+      (sym (lifted-read list h (map name (reduceSteps list)) (reduceSteps list) (reduce-allowed list h)
+      (solution (cellsOf list) (leftOver list)) (best-left .pairing)))
+      (heaviest-lifted list h (map name (reduceSteps list)) (reduceSteps list) (reduce-allowed list h)
+      (solution (cellsOf list) (leftOver list)) best-left)
+
+  abbrev k : ℕ
+  k = cellsLeft (cellsOf list) (leftOver list)
+
+  pair-answers : (lent : List ℕ) (room : ℕ) → fewWords lent ≡ false → k ≤ 12 → length (pairingFile list) ≤ room
+      → pairing list lent room ≡ (0, length (pairingFile list) ∷ [])
+  unfolding shortOutput
+  pair-answers lent room few c l =
+      let rows = list-none storeList list h in
+      rw (
+        few,
+        rows .0,
+        rows .1 .0,
+        rows .1 .1 .0,
+        rows .1 .1 .1 .0,
+        rows .1 .1 .1 .1 .0,
+        le-ltb 12 k c,
+        le-ltb room (length (pairingFile list)) l,
+      )
+
+  -- the answer by its rows: 1, those of the list, 11 and 12
+  pair-crowds : (lent : List ℕ) (room : ℕ) → pairing list lent room ≡ (11, []) → 12 < k
+  pair-crowds lent room e =
+      let rows = list-none storeList list h in
+      go (fewWords lent) (ltT 12 k) (shortOutput ((room, length (pairingFile list)) ∷ []))
+      (rw (rows .0, rows .1 .0, rows .1 .1 .0, rows .1 .1 .1 .0, rows .1 .1 .1 .1 .0) at e)
+    where
+      go : (f : Bool) {t : Bool} → Test (12 < k) (k ≤ 12) t → (s : Bool)
+          → answer (cond f 1 (cond t 11 (cond s 12 0))) (length (pairingFile list) ∷ []) ≡ (11, []) → 12 < k
+      go true y s q = absurd (omega (arith, ap (λ (a : Answer). a .0) q))
+      go false (pass l) s q = l
+      go false (fail l) true q = absurd (omega (arith, ap (λ (a : Answer). a .0) q))
+      go false (fail l) false q = absurd (omega (arith, ap (λ (a : Answer). a .0) q))
+
+  pub demand-pair : PairClaim list
+  demand-pair = record {
+    ended = reduce-ends (list-graph list h);
+    answers = pair-answers;
+    heaviest = best-store;
+    crowds = pair-crowds;
+  }

@@ -1,23 +1,32 @@
 -- The solution as its file has it. In order: what is tried keeps what each trial has (`tries-keep`); the cells of a
 -- set's heaviest pairing are in the set (`solve-each`), and its pairs are in file order where the set ascends
 -- (`solve-in-order`); the cells that have pairs ascend, and are below n; so the solution is in file order
--- (`solution-filed`), its cells below n (`solution-cells`). Assumes nothing.
-use mathlib.Core.Path.{_≡_, refl}
-use mathlib.Core.Bool.{Bool, true, false, cond, _&&_}
+-- (`solution-filed`), its cells below n (`solution-cells`), and heaviest (`solution-heaviest`). Assumes nothing.
+use mathlib.Core.Path.{_≡_, refl, sym, ap}
+use mathlib.Core.Logic.{_≢_}
+use mathlib.Core.Bool.{Bool, true, false, cond, _&&_, _||_}
 use mathlib.Core.List.{List, [], _∷_, _++_}
-use Prim.Native.Nat.{ℕ, zero, suc, _+_, _<_}
+use Prim.Native.Nat.{ℕ, zero, suc, _+_, _≤_, _<_}
 use native.Mathlib.Omega.{arith}
 use lib.Dec.{ltb}
-use Rattle.matching.specs.Lists.{All}
+use lib.ListN.{length}
+use Rattle.matching.specs.Lists.{All, mem}
 use Rattle.matching.specs.Pairs.{Pair, Points, sum, Each}
 use Rattle.matching.specs.Listed.{filed}
-use Rattle.matching.specs.Graph.{degree}
+use Rattle.matching.specs.Pairing.{Heaviest}
+use Rattle.matching.specs.Graph.{Graph, partners, degree}
 use Rattle.matching.specs.Solve.{less, tries, solve}
 use Rattle.matching.proofs.Alls.{Ascends, all-map, all-append, all-mem, all-members, ascends-append}
 use Rattle.matching.proofs.Sums.{each-map}
 use Rattle.matching.proofs.Solve.{less-mem, less-ascends}
 use Rattle.matching.proofs.Filed.{InOrder, filed-filed}
+use Rattle.matching.proofs.Tests.{Test, pass, fail, eqT, ltT}
+use Rattle.matching.proofs.Members.{or-left, or-right, no-mem, mem-head, mem-append}
+use Rattle.matching.proofs.Put.{pair-below}
+use Rattle.matching.proofs.Partners.{has-partner}
+use Rattle.matching.proofs.Foremost.{solve-heaviest}
 use Rattle.lifting.specs.Calls.{withPairs, solution}
+use Rattle.lifting.proofs.Gathering.{with-few}
 
 -- ---- a set of cells
 
@@ -90,3 +99,27 @@ module _ (n : ℕ) (w : Points) where
 
   pub solution-cells : Each (λ a b. (a < n) × (b < n)) (solution n w)
   solution-cells = solve-each (λ x. x < n) n w (withPairs n w n) (with-cells n)
+
+  -- a cell that has pairs is among them
+  with-has : (k c : ℕ) → c < k → 0 < degree n w c → mem c (withPairs n w k) ≡ true
+  unfolding withPairs
+  with-has zero c l h = absurd (omega arith)
+  with-has (suc k) c l h = rw mem-append (go (eqT c k) (ltT 0 (degree n w k)) (λ d. with-has k c d h))
+    where
+      go : {s t : Bool} → Test (c ≡ k) (c ≢ k) s → Test (0 < degree n w k) (degree n w k ≤ 0) t
+          → (c < k → mem c (withPairs n w k) ≡ true) → mem c (withPairs n w k) || mem c (cond t (k ∷ []) []) ≡ true
+      go (pass e) (pass q) i = or-right (mem c (withPairs n w k)) (mem c (k ∷ [])) (mem-head c k [] (sym e))
+      go (pass e) (fail q) i = absurd (omega (arith, ap (degree n w) e))
+      go (fail d) y i = or-left (mem c (withPairs n w k)) _ (i (omega arith))
+
+  pub solution-heaviest : Graph n w → Heaviest w w (solution n w)
+  solution-heaviest g = solve-heaviest n w g (withPairs n w n) (with-ascends n) all n (with-few n w n)
+    where
+      all : (a b : ℕ) → 0 < w a b → mem b (withPairs n w n) ≡ true
+      all a b h =
+          with-has n b (pair-below g a b h .1)
+          (some-partner (partners n w b) (has-partner g b a (omega (arith, g .turned a b))))
+        where
+          some-partner : (ps : List ℕ) → mem a ps ≡ true → 0 < length ps
+          some-partner [] m = no-mem a m
+          some-partner (x ∷ xs) m = omega arith

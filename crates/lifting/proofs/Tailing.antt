@@ -1,26 +1,19 @@
--- Pair after its steps. In order: the cells that have pairs ascend, so the solution is a pairing (`solution-pairing`);
--- what is left may be solved (`tail-left`), its solution entered (`tail-words`) and brought back (`tail-returns`); the
--- answers (`tail-crowded`, `tail-passed`); reduce leaves what this asks (`reduce-tail`), and so it is what pair is to
+-- Pair after its steps. In order: what is left may be solved (`tail-left`), its solution entered (`tail-words`) and
+-- brought back (`tail-returns`); the answers (`tail-crowded`, `tail-passed`); reduce leaves what this asks (`reduce-tail`), and so it is what pair is to
 -- answer (`pair-passed`). Assumes nothing.
 use mathlib.Core.Path.{_≡_, refl, subst, _∙_}
-use mathlib.Core.Bool.{Bool, true, false, cond}
 use mathlib.Core.List.{List, [], _∷_, _++_, map}
 use mathlib.Core.Option.{some}
-use Prim.Native.Nat.{ℕ, zero, suc, _<_}
+use Prim.Native.Nat.{ℕ, _<_}
 use native.Mathlib.Omega.{arith}
-use lib.Dec.{ltb}
 use lib.ListN.{length}
 use borrow.Author.Tests.{lt-ltb, le-ltb}
-use Rattle.matching.specs.Lists.{All}
 use Rattle.matching.specs.Pairs.{Pair, Points}
-use Rattle.matching.specs.Pairing.{Pairing}
-use Rattle.matching.specs.Graph.{Graph, degree, cellsLeft}
+use Rattle.matching.specs.Graph.{Graph, cellsLeft}
 use Rattle.matching.specs.Steps.{Step, name}
 use Rattle.matching.specs.Slip.{replay, left, lift}
-use Rattle.matching.proofs.Alls.{Ascends, ascends-append, all-append, all-map}
 use Rattle.matching.proofs.Sums.{each-map}
 use Rattle.matching.proofs.Put.{pair-below, pair-apart}
-use Rattle.matching.proofs.Foremost.{solve-solves}
 use Rattle.matching.proofs.Reduce.{replay-fits}
 use Rattle.matching.proofs.Demand.{slip-graph}
 use Rattle.matching.proofs.Tally.{cells-most}
@@ -36,49 +29,15 @@ use Rattle.reduction.proofs.Layers.{refused, passed}
 use Rattle.reduction.proofs.Courses.{list-graph, left-small}
 use Rattle.reduction.proofs.Coursing.{trail-room}
 use Rattle.reduction.proofs.Reducing.{reduce-allowed, reduce-after, reduce-left}
-use Rattle.lifting.specs.Calls.{withPairs, solution, pairFile, graphAfter, pairingFile}
+use Rattle.lifting.specs.Calls.{solution, pairFile, graphAfter, pairingFile}
 use Rattle.lifting.specs.Left.{LeftThere, SolvedIn}
 use Rattle.lifting.specs.Back.{Mates}
 use Rattle.lifting.specs.Table.{TrailKept}
 use Rattle.lifting.specs.Words.{WordsThere}
 use Rattle.lifting.specs.Ending.{ReturnThere, Returns}
 use Rattle.lifting.specs.Tail.{TailThere, Tails, crowdRow}
-use Rattle.lifting.proofs.Gathering.{with-few}
+use Rattle.lifting.proofs.Solution.{solution-heaviest}
 use Rattle.lifting.proofs.Marking.{words-same}
-
--- ---- the solution is a pairing
-
-module _ (n : ℕ) (w : Points) where
-  -- the cell k, where it has pairs
-  abbrev last : ℕ → List ℕ
-  last k = cond (ltb 0 (degree n w k)) (k ∷ []) []
-
-  last-is : (k : ℕ) → All (λ (c : ℕ). c ≡ k) (last k) × Ascends (λ (a b : ℕ). a < b) (last k)
-  last-is k = go (ltb 0 (degree n w k))
-    where
-      go : (t : Bool)
-          → All (λ (c : ℕ). c ≡ k) (cond t (k ∷ []) []) × Ascends (λ (a b : ℕ). a < b) (cond t (k ∷ []) [])
-      go true = ((refl, tt), (tt, tt))
-      go false = (tt, tt)
-
-  with-under : (k : ℕ) → All (λ (c : ℕ). c < k) (withPairs n w k)
-  unfolding withPairs
-  with-under zero = tt
-  with-under (suc k) =
-      all-append (λ (c : ℕ). c < suc k) (withPairs n w k) (last k)
-      (all-map (λ (c : ℕ) l. omega arith) (withPairs n w k) (with-under k))
-      (all-map (λ (c : ℕ) e. omega arith) (last k) (last-is k .0))
-
-  with-ascends : (k : ℕ) → Ascends (λ (a b : ℕ). a < b) (withPairs n w k)
-  unfolding withPairs
-  with-ascends zero = tt
-  with-ascends (suc k) =
-      ascends-append (λ (a b : ℕ) l e. omega arith) (withPairs n w k) (last k) (with-under k) (last-is k .0)
-      (with-ascends k) (last-is k .1)
-
-  pub solution-pairing : Graph n w → Pairing w (solution n w)
-  solution-pairing g =
-      solve-solves n w g n (withPairs n w n) (with-few n w n) (with-ascends n) .0 .pairing
 
 -- ---- the tail
 
@@ -125,8 +84,8 @@ module _ {n e t : ℕ} {w1 w2 : List ℕ} (p : TailThere n e t w1 w2) where
       within = each-map
           (λ a b h. (let q = pair-below left-graph a b h in
           (omega (arith, q .0, p .cells), omega (arith, q .1, p .cells), pair-apart left-graph a b h)))
-          best (solution-pairing n g left-graph .held);
-      once = solution-pairing n g left-graph .once;
+          best (solution-heaviest n g left-graph .pairing .held);
+      once = solution-heaviest n g left-graph .pairing .once;
     }
 
     module _ {w2b : List ℕ} (same3 : length w2b ≡ length w2a) (m : Mates w2b best × TrailKept w2a w2b) where
@@ -149,7 +108,7 @@ module _ {n e t : ℕ} {w1 w2 : List ℕ} (p : TailThere n e t w1 w2) where
           trail =
               words-same 0 t w2 w2b (λ j l. m .1 j l ∙ solved .aside j (omega arith)) (omega (arith, p .most))
               (p .holds .room2) (omega arith) ∙ p .trail;
-          pairing = solution-pairing n g left-graph;
+          pairing = solution-heaviest n g left-graph .pairing;
           mates = m .0;
         };
         cells-are = refl;

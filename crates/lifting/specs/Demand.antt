@@ -3,15 +3,18 @@
 use mathlib.Core.Path.{_≡_}
 use mathlib.Core.Bool.{true, false}
 use mathlib.Core.List.{List, [], _∷_}
-use Prim.Native.Nat.{ℕ, _+_, _≤_}
+use mathlib.Core.Option.{none}
+use Prim.Native.Nat.{ℕ, _+_, _≤_, _<_}
 use lib.ListN.{length, getD}
 use Rattle.matching.specs.Pairs.{Pair, Points, sum}
 use Rattle.matching.specs.Pairing.{Pairing, Heaviest}
 use Rattle.matching.specs.Listed.{Entry, joined, listed, points}
+use Rattle.matching.specs.Graph.{cellsLeft}
+use Rattle.matching.specs.Find.{firstStep}
 use Rattle.cellfile.specs.Files.{storeList, shortList as shortLayout, cellsOf, entriesOf, stepsOf, pairsOf, readFile}
 use Rattle.cellfile.specs.Refusals.{first, fewWords, listRows, badSlip, badPairing, noPairing}
-use Rattle.reduction.specs.Calls.{graphIn, stand, replayShort}
-use Rattle.lifting.specs.Calls.{graphAfter, bySteps, liftFile, lifting}
+use Rattle.reduction.specs.Calls.{graphIn, stand, replayShort, reduceSteps}
+use Rattle.lifting.specs.Calls.{graphAfter, bySteps, liftFile, lifting, pairingFile, pairing}
 
 -- The carried points that a short list says.
 abbrev pub carriedOf : List ℕ → ℕ
@@ -48,3 +51,19 @@ module _ (list slip pairing : List ℕ) where
     pub level : (a b : List Pair) (d : ℕ) → Heaviest (joined store) (listed store) a → Heaviest short short b
         → sum short b ≡ sum short (pairsOf pairing) + d → points store a ≡ points store lifted + d
     pub steps : length (stepsOf slip) ≤ cellsOf list
+
+-- Of pair, for a list that refusals 2 to 6 pass: no step is left after those of reduce; with buffers and room enough it
+-- answers its file's length where at most 12 cells have pairs left; what it writes is a heaviest pairing of the store; and
+-- where 11 says no, more than 12 cells have pairs left. Law: proofs/Claim, `demand-pair`.
+module _ (list : List ℕ) where
+  abbrev pub leftOver : Points
+  leftOver = graphAfter list (reduceSteps list)
+
+  pub record PairClaim : Type 0 where
+    pub ended : firstStep (cellsOf list) leftOver ≡ none
+    pub answers : (lent : List ℕ) (room : ℕ) → fewWords lent ≡ false → cellsLeft (cellsOf list) leftOver ≤ 12
+        → length (pairingFile list) ≤ room → pairing list lent room ≡ (0, length (pairingFile list) ∷ [])
+    pub heaviest : Heaviest (joined (entriesOf storeList list)) (listed (entriesOf storeList list))
+        (pairsOf (pairingFile list))
+    pub crowds : (lent : List ℕ) (room : ℕ) → pairing list lent room ≡ (11, [])
+        → 12 < cellsLeft (cellsOf list) leftOver
