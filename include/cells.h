@@ -44,6 +44,36 @@ uint32_t cells_reduce(const uint8_t *list, size_t list_len,
                       uint64_t *slip_len,
                       uint64_t *short_len);
 
+/* Solves what a slip (kind 3) leaves of a store list: writes a heaviest pairing (kind 4) of the pairs left, of
+ * *pairing_len bytes. Refusals: 1, 2 to 6, 7, 8 (the slip), 11 (more than 12 cells have pairs left),
+ * 12 (the output is shorter than its file). */
+uint32_t cells_solve(const uint8_t *list, size_t list_len,
+                     const uint8_t *slip, size_t slip_len,
+                     uint64_t *work_a, size_t work_a_len,
+                     uint64_t *work_b, size_t work_b_len,
+                     uint8_t *pairing, size_t pairing_size,
+                     uint64_t *pairing_len);
+
+/* Lifts a pairing (kind 4) of what a slip leaves to the store list: writes a pairing of the list, of *lifted_len
+ * bytes. Refusals: 1, 2 to 6, 7, 8 (the slip), 9 (the pairing's form), 10 (a cell twice, or a pair that the slip
+ * does not leave), 12 (the output is shorter than its file). */
+uint32_t cells_lift(const uint8_t *list, size_t list_len,
+                    const uint8_t *slip, size_t slip_len,
+                    const uint8_t *pairing, size_t pairing_len,
+                    uint64_t *work_a, size_t work_a_len,
+                    uint64_t *work_b, size_t work_b_len,
+                    uint8_t *lifted, size_t lifted_size,
+                    uint64_t *lifted_len);
+
+/* Pairs a store list: reduces it, solves what is left and lifts that; writes a heaviest pairing of the list, of
+ * *pairing_len bytes. Refusals: 1, 2 to 6, 11 (more than 12 cells have pairs left), 12 (the output is shorter than
+ * its file). */
+uint32_t cells_pair(const uint8_t *list, size_t list_len,
+                    uint64_t *work_a, size_t work_a_len,
+                    uint64_t *work_b, size_t work_b_len,
+                    uint8_t *pairing, size_t pairing_size,
+                    uint64_t *pairing_len);
+
 #ifdef __cplusplus
 }
 #endif

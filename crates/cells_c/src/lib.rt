@@ -1,6 +1,7 @@
 // The calls for C: include/cells.h declares them. Every slice is a pointer and a length; each call answers 0 or the
 // refusal's number, and on refusal leaves the numbers that it would answer unchanged.
 use cellfile::Weighed;
+use lifting::Paired;
 use reduction::Reduced;
 use reduction::Replayed;
 ghost use mathlib.Core.Path.{_≡_};
@@ -8,6 +9,8 @@ ghost use lib.ListN.{length};
 ghost use Rattle.cellfile.specs.Files.{lent, Cleared};
 ghost use Rattle.cellfile.specs.Weigh.{weighing};
 ghost use Rattle.reduction.specs.Calls.{written, replaying, reducing, replayShort, slipFile, shortFile, reduceSteps};
+ghost use Rattle.lifting.specs.Calls.{solving, solveFile, lifting, liftFile};
+ghost use Rattle.lifting.specs.Calls.{pairing as pairingAnswer, pairingFile};
 ghost use Rattle.cells_c.specs.Numbers.{valueOr};
 
 #[no_mangle]
@@ -97,6 +100,93 @@ pub extern "C" fn cells_reduce(
         Reduced::Lengths { slip: m, short: k } => {
             *slip_len = m as u64;
             *short_len = k as u64;
+            0
+        }
+    }
+}
+
+#[no_mangle]
+pub extern "C" fn cells_solve(
+    list: &[u8],
+    slip: &[u8],
+    work_a: &mut [u64],
+    work_b: &mut [u64],
+    pairing: &mut [u8],
+    pairing_len: &mut u64,
+) -> u32
+    ensures answer { λ r. ⌜ r ≡ solving (now (list .entry)) (now (slip .entry))
+        (lent (now («work_a» .entry)) (now («work_b» .entry))) (length (now (pairing .entry))) .0 ⌝ }
+    ensures values { λ _. ⌜ now («pairing_len» .exit) ≡ valueOr 0 (now («pairing_len» .entry))
+        (solving (now (list .entry)) (now (slip .entry))
+        (lent (now («work_a» .entry)) (now («work_b» .entry))) (length (now (pairing .entry)))) ⌝ }
+    ensures output { λ _. ⌜ now (pairing .exit) ≡ written (solving (now (list .entry)) (now (slip .entry))
+        (lent (now («work_a» .entry)) (now («work_b» .entry))) (length (now (pairing .entry))) .0)
+        (solveFile (now (list .entry)) (now (slip .entry))) (now (pairing .entry)) ⌝ }
+    ensures cleared { λ _. ⌜ Cleared (now («work_a» .entry)) (now («work_a» .exit))
+        × Cleared (now («work_b» .entry)) (now («work_b» .exit)) ⌝ }
+{
+    match lifting::solve(list, slip, work_a, work_b, pairing) {
+        Paired::Refused(k) => k,
+        Paired::Length(m) => {
+            *pairing_len = m as u64;
+            0
+        }
+    }
+}
+
+#[no_mangle]
+pub extern "C" fn cells_lift(
+    list: &[u8],
+    slip: &[u8],
+    pairing: &[u8],
+    work_a: &mut [u64],
+    work_b: &mut [u64],
+    lifted: &mut [u8],
+    lifted_len: &mut u64,
+) -> u32
+    ensures answer { λ r. ⌜ r ≡ lifting (now (list .entry)) (now (slip .entry)) (now (pairing .entry))
+        (lent (now («work_a» .entry)) (now («work_b» .entry))) (length (now (lifted .entry))) .0 ⌝ }
+    ensures values { λ _. ⌜ now («lifted_len» .exit) ≡ valueOr 0 (now («lifted_len» .entry))
+        (lifting (now (list .entry)) (now (slip .entry)) (now (pairing .entry))
+        (lent (now («work_a» .entry)) (now («work_b» .entry))) (length (now (lifted .entry)))) ⌝ }
+    ensures output { λ _. ⌜ now (lifted .exit) ≡ written (lifting (now (list .entry)) (now (slip .entry)) (now (pairing .entry))
+        (lent (now («work_a» .entry)) (now («work_b» .entry))) (length (now (lifted .entry))) .0)
+        (liftFile (now (list .entry)) (now (slip .entry)) (now (pairing .entry))) (now (lifted .entry)) ⌝ }
+    ensures cleared { λ _. ⌜ Cleared (now («work_a» .entry)) (now («work_a» .exit))
+        × Cleared (now («work_b» .entry)) (now («work_b» .exit)) ⌝ }
+{
+    match lifting::lift(list, slip, pairing, work_a, work_b, lifted) {
+        Paired::Refused(k) => k,
+        Paired::Length(m) => {
+            *lifted_len = m as u64;
+            0
+        }
+    }
+}
+
+#[no_mangle]
+pub extern "C" fn cells_pair(
+    list: &[u8],
+    work_a: &mut [u64],
+    work_b: &mut [u64],
+    pairing: &mut [u8],
+    pairing_len: &mut u64,
+) -> u32
+    ensures answer { λ r. ⌜ r ≡ pairingAnswer (now (list .entry))
+        (lent (now («work_a» .entry)) (now («work_b» .entry))) (length (now (pairing .entry))) .0 ⌝ }
+    ensures values { λ _. ⌜ now («pairing_len» .exit) ≡ valueOr 0 (now («pairing_len» .entry))
+        (pairingAnswer (now (list .entry))
+        (lent (now («work_a» .entry)) (now («work_b» .entry))) (length (now (pairing .entry)))) ⌝ }
+    ensures output { λ _. ⌜ now (pairing .exit) ≡ written (pairingAnswer (now (list .entry))
+        (lent (now («work_a» .entry)) (now («work_b» .entry))) (length (now (pairing .entry))) .0)
+        (pairingFile (now (list .entry))) (now (pairing .entry)) ⌝ }
+    ensures cleared { λ _. ⌜ Cleared (now («work_a» .entry)) (now («work_a» .exit))
+        × Cleared (now («work_b» .entry)) (now («work_b» .exit)) ⌝ }
+{
+    match lifting::pair(list, work_a, work_b, pairing) {
+        Paired::Refused(k) => k,
+        Paired::Length(m) => {
+            *pairing_len = m as u64;
             0
         }
     }
