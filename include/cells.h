@@ -51,7 +51,7 @@ uint32_t cells_solve(const uint8_t *list, size_t list_len,
                      const uint8_t *slip, size_t slip_len,
                      uint64_t *work_a, size_t work_a_len,
                      uint64_t *work_b, size_t work_b_len,
-                     uint8_t *pairing, size_t pairing_size,
+                     uint8_t *pairing, size_t pairing_room,
                      uint64_t *pairing_len);
 
 /* Lifts a pairing (kind 4) of what a slip leaves to the store list: writes a pairing of the list, of *lifted_len
@@ -62,7 +62,7 @@ uint32_t cells_lift(const uint8_t *list, size_t list_len,
                     const uint8_t *pairing, size_t pairing_len,
                     uint64_t *work_a, size_t work_a_len,
                     uint64_t *work_b, size_t work_b_len,
-                    uint8_t *lifted, size_t lifted_size,
+                    uint8_t *lifted, size_t lifted_room,
                     uint64_t *lifted_len);
 
 /* Pairs a store list: reduces it, solves what is left and lifts that; writes a heaviest pairing of the list, of
@@ -71,7 +71,7 @@ uint32_t cells_lift(const uint8_t *list, size_t list_len,
 uint32_t cells_pair(const uint8_t *list, size_t list_len,
                     uint64_t *work_a, size_t work_a_len,
                     uint64_t *work_b, size_t work_b_len,
-                    uint8_t *pairing, size_t pairing_size,
+                    uint8_t *pairing, size_t pairing_room,
                     uint64_t *pairing_len);
 
 #ifdef __cplusplus
