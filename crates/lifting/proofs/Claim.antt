@@ -39,9 +39,10 @@ use Rattle.reduction.specs.Calls.{graphIn, stand, stepsOn, shortFile, replaySho
 use Rattle.reduction.proofs.Reducing.{reduce-allowed}
 use Rattle.reduction.proofs.Loading.{list-accepted}
 use Rattle.reduction.proofs.Courses.{list-graph, list-few, left-small}
-use Rattle.lifting.specs.Calls.{pairFields, pairFile, liftedFile, liftFile, lifting, solution, pairingFile, pairing}
+use Rattle.lifting.specs.Calls.{pairFile, liftedFile, liftFile, lifting, solution, pairingFile, pairing}
 use Rattle.lifting.specs.Demand.{carriedOf, short, lifted, Passes, Claim, leftOver, PairClaim}
-use Rattle.lifting.proofs.Tabled.{Within, pairing-half}
+use Rattle.partners.specs.Words.{pairFields}
+use Rattle.partners.proofs.Tabled.{Within, pairing-half}
 use Rattle.lifting.proofs.Solution.{solution-heaviest}
 
 -- ---- what is written is read again

@@ -6,52 +6,44 @@ use mathlib.Core.Path.{_≡_, refl, sym, ap, subst, _∙_}
 use mathlib.Core.Bool.{Bool, true, false, cond}
 use mathlib.Core.List.{List, [], _∷_, map}
 use mathlib.Core.Option.{Option, some, none}
-use Prim.Native.Nat.{ℕ, _≤_, _<_}
+use Prim.Native.Nat.{ℕ, _≤_}
 use native.Mathlib.Omega.{arith}
 use lib.ListN.{length, getD, take}
 use borrow.Author.Tests.{not-false}
 use Rattle.matching.specs.Pairs.{Points}
 use Rattle.matching.specs.Pairing.{Pairing, isPairing}
 use Rattle.matching.specs.Listed.{shortList}
-use Rattle.matching.specs.Graph.{Graph}
 use Rattle.matching.specs.Steps.{Rule, Step, name}
-use Rattle.matching.specs.Slip.{replay, left, lift}
-use Rattle.matching.proofs.Fits.{Stands}
+use Rattle.matching.specs.Slip.{replay, lift}
 use Rattle.matching.proofs.Pairing.{is-pairing}
-use Rattle.matching.proofs.Tally.{cells-most}
 use Rattle.matching.proofs.More.{short-more}
 use Rattle.matching.proofs.Reduce.{replay-fits}
-use Rattle.matching.proofs.Demand.{slip-graph}
 use Rattle.cellfile.specs.Files.{cellsOf, countOf, stepsOf, pairsOf}
 use Rattle.cellfile.specs.Refusals.{Row, first, noPairing}
 use Rattle.cellfile.specs.Answers.{Answer, answer}
 use Rattle.cellfile.proofs.Rows.{first-none}
 use Rattle.cellfile.proofs.Layers.{answer-accepted}
 use Rattle.slots.specs.Slots.{graphOf}
-use Rattle.steps.specs.Trail.{trail}
 use Rattle.reduction.specs.Pairs.{Pairs, pairWord}
 use Rattle.reduction.specs.Calls.{graphIn, asName, stepsOn}
-use Rattle.reduction.specs.Running.{Small}
 use Rattle.reduction.specs.Writing.{Does}
 use Rattle.reduction.specs.Starting.{slipStart, StartDone}
 use Rattle.reduction.proofs.Layers.{refused, passed}
 use Rattle.reduction.proofs.Listing.{holds-pairs}
-use Rattle.reduction.proofs.Loading.{list-accepted}
-use Rattle.reduction.proofs.Courses.{list-graph, left-small}
-use Rattle.reduction.proofs.Coursing.{trail-room}
+use Rattle.reduction.proofs.Courses.{list-graph}
 use Rattle.lifting.specs.Calls.{pairFile, liftFile, liftedFile, graphAfter}
-use Rattle.lifting.specs.Table.{Entered}
+use Rattle.partners.specs.Table.{Entered}
 use Rattle.lifting.specs.Ending.{ReturnThere, Returns}
-use Rattle.lifting.specs.Lifting.{formRow, holdRow, liftStart, backFile}
-use Rattle.lifting.specs.Lifting.{PairingThere, LiftsPairing, TailThere, LiftsTail}
-use Rattle.lifting.proofs.Marking.{words-same}
+use Rattle.lifting.specs.Tail.{after, TailThere}
+use Rattle.lifting.specs.Lifting.{formRow, holdRow, liftStart, backFile, PairingThere, LiftsPairing, LiftsTail}
+use Rattle.lifting.proofs.After.{after-graph, after-small, return-there, tail-there}
 
 -- ---- refusal 10
 
 module _ {n t : ℕ} {pairing : List ℕ} {k r : ℕ} {w1 w2 : List ℕ} (h : PairingThere n t pairing k r w1 w2)
-    {v2 : List ℕ} {b : Bool} (e : Entered (left (h .on .w) (h .on .steps)) pairing w2 v2 b) where
+    {v2 : List ℕ} {b : Bool} (e : Entered (after (h .on)) pairing w2 v2 b) where
   abbrev there : Points
-  there = left (h .on .w) (h .on .steps)
+  there = after (h .on)
 
   pub ten-refused : b ≡ true → (out : List ℕ)
       → Does (holdRow there pairing ∷ []) ((backFile (h .on) pairing, out, out) ∷ []) (10, [])
@@ -67,30 +59,9 @@ module _ {n t : ℕ} {pairing : List ℕ} {k r : ℕ} {w1 w2 : List ℕ} (h : Pa
     is : Pairing there (pairsOf pairing)
     is = is-pairing there (pairsOf pairing) (not-false (isPairing there (pairsOf pairing)) holds-not)
 
-    trail-kept : take t v2 ≡ trail (h .on .w) (h .on .steps)
-    trail-kept = words-same 0 t w2 v2 (e .aside) (omega (arith, h .on .most)) (h .file .room2) same ∙ h .on .trail
-
-    room : 8192 ≤ length v2
-    room = omega (arith, h .file .room2)
-
     abbrev entered : ReturnThere n t w1 v2
-    entered = record {
-      back = record {
-        rooms = record { room1 = h .file .room1; room2 = room; most = h .on .most };
-        n = n;
-        w = h .on .w;
-        steps = h .on .steps;
-        pairs = pairsOf pairing;
-        cells = h .on .cells;
-        graph = h .on .graph;
-        allowed = h .on .allowed;
-        small = h .on .small;
-        trail = trail-kept;
-        pairing = is;
-        mates = e .mates q;
-      };
-      cells-are = refl;
-    }
+    entered =
+        return-there (h .on) w1 v2 (pairsOf pairing) (h .file .room1) (h .file .room2) same (e .aside) is (e .mates q)
 
     pub ten-there : ReturnThere n t w1 v2
     ten-there = entered
@@ -105,29 +76,18 @@ module _ {n t : ℕ} {pairing : List ℕ} {k r : ℕ} {w1 w2 : List ℕ} (h : Pa
 -- ---- refusal 9
 
 module _ {n e t : ℕ} {w1 w2 : List ℕ} (h : TailThere n e t w1 w2) where
-  abbrev after : Points
-  after = left (h .on .w) (h .on .steps)
-
-  after-graph : Graph n after
-  after-graph =
-      slip-graph (h .on .graph) (h .on .steps)
-      (replay-fits (h .on .graph) (map name (h .on .steps)) (h .on .steps) (h .on .allowed) .0)
-
-  after-small : (a b : ℕ) → after a b < 17592186044416
-  after-small a b = omega (arith, h .on .small (map name (h .on .steps)) (h .on .steps) (h .on .allowed) a b)
-
   pub tail-pairs : Pairs e w1
-  tail-pairs = holds-pairs (h .holds) (λ a b. rw (h .left-is) (after-small a b))
+  tail-pairs = holds-pairs (h .holds) (λ a b. rw (h .left-is) (after-small (h .on) a b))
 
-  short-is : shortList 1024 (graphOf e w1) ≡ shortList n after
-  short-is = ap (shortList 1024) (h .left-is) ∙ short-more after-graph 1024 (h .on .cells)
+  short-is : shortList 1024 (graphOf e w1) ≡ shortList n (after (h .on))
+  short-is = ap (shortList 1024) (h .left-is) ∙ short-more (after-graph (h .on)) 1024 (h .on .cells)
 
   module _ (pairing : List ℕ) where
     pub nine-refused : {k : ℕ} → (k, []) ≡ answer (first (formRow n pairing ∷ [])) (n ∷ countOf pairing ∷ [])
         → (out : List ℕ)
-        → Does (formRow n pairing ∷ holdRow after pairing ∷ []) ((backFile (h .on) pairing, out, out) ∷ []) (k, [])
+        → Does (formRow n pairing ∷ holdRow (after (h .on)) pairing ∷ []) ((backFile (h .on) pairing, out, out) ∷ []) (k, [])
     nine-refused q out =
-        refused (formRow n pairing ∷ []) (holdRow after pairing ∷ []) n (countOf pairing ∷ []) q (refl, tt)
+        refused (formRow n pairing ∷ []) (holdRow (after (h .on)) pairing ∷ []) n (countOf pairing ∷ []) q (refl, tt)
 
     module _ {i k : ℕ} (q : (0, i ∷ k ∷ []) ≡ answer (first (formRow n pairing ∷ [])) (n ∷ countOf pairing ∷ [])) where
       accepted : (first (formRow n pairing ∷ []) ≡ 0) × (i ∷ k ∷ [] ≡ n ∷ countOf pairing ∷ [])
@@ -141,8 +101,8 @@ module _ {n e t : ℕ} {w1 w2 : List ℕ} (h : TailThere n e t w1 w2) where
           on = h .on;
           file = record {
             cells = h .on .cells;
-            graph = after-graph;
-            small = after-small;
+            graph = after-graph (h .on);
+            small = after-small (h .on);
             formed = first-none (formRow n pairing ∷ []) (omega arith, tt) (accepted .0) .0;
             count = ap (λ vs. getD vs 1 0) (accepted .1);
             room1 = omega (arith, h .holds .room1);
@@ -157,9 +117,9 @@ module _ {n e t : ℕ} {w1 w2 : List ℕ} (h : TailThere n e t w1 w2) where
         nine-there = formed
 
         pub nine-passed : {out out′ : List ℕ} {a : Answer} → LiftsPairing n t pairing k r v1 w2 out out′ a
-            → Does (formRow n pairing ∷ holdRow after pairing ∷ []) ((backFile (h .on) pairing, out, out′) ∷ []) a
+            → Does (formRow n pairing ∷ holdRow (after (h .on)) pairing ∷ []) ((backFile (h .on) pairing, out, out′) ∷ []) a
         nine-passed d =
-            passed (formRow n pairing ∷ []) (holdRow after pairing ∷ []) (omega arith, tt) (accepted .0) (d formed)
+            passed (formRow n pairing ∷ []) (holdRow (after (h .on)) pairing ∷ []) (omega arith, tt) (accepted .0) (d formed)
 
 -- ---- the call
 
@@ -178,49 +138,14 @@ module _ (list slip : List ℕ) {n slots on-trail points steps : ℕ} {w1 w2 : L
   abbrev names : List (Rule × ℕ)
   names = map asName (stepsOf slip)
 
-  few : n ≤ 1024
-  few = omega (arith, d .cells, list-accepted list (d .accepted) .0)
-
-  graph : Graph n (graphIn list)
-  graph = rw (d .cells) (list-graph list (d .accepted))
-
-  fits : Stands (graphIn list) (d .taken) × (length (d .taken) ≡ length names) × (map name (d .taken) ≡ names)
-  fits = replay-fits (list-graph list (d .accepted)) names (d .taken) (d .steps-are)
-
-  allowed : replay n (graphIn list) (map name (d .taken)) ≡ some (d .taken)
-  allowed =
-      ap (λ (i : ℕ). replay i (graphIn list) (map name (d .taken))) (d .cells)
-      ∙ ap (replay (cellsOf list) (graphIn list)) (fits .2)
+  stand : replay (cellsOf list) (graphIn list) (map name (d .taken)) ≡ some (d .taken)
+  stand =
+      ap (replay (cellsOf list) (graphIn list))
+      (replay-fits (list-graph list (d .accepted)) names (d .taken) (d .steps-are) .2)
       ∙ d .steps-are
 
-  small : Small n (graphIn list)
-  small = rw (d .cells) (left-small list (d .accepted))
-
-  most : on-trail ≤ 4096
-  most =
-      omega (
-        arith,
-        d .after .trail-length,
-        trail-room graph (d .taken) (fits .0),
-        cells-most n (graphIn list),
-        few,
-      )
-
   abbrev start : TailThere n slots on-trail w1 w2
-  start = record {
-    on = record {
-      w = graphIn list;
-      steps = d .taken;
-      cells = few;
-      graph = graph;
-      allowed = allowed;
-      small = small;
-      most = most;
-      trail = d .after .trail;
-    };
-    holds = d .after .holds;
-    left-is = d .after .graph;
-  }
+  start = tail-there list (d .accepted) (d .taken) stand (d .cells) (d .after)
 
   pub start-there : TailThere n slots on-trail w1 w2
   start-there = start

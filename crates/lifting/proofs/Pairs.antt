@@ -14,8 +14,7 @@ use Rattle.cellfile.proofs.Fields.{fields-packed}
 use Rattle.cellfile.proofs.RoundTrip.{length-file}
 use Rattle.reduction.specs.Writing.{Does}
 use Rattle.reduction.proofs.Layers.{no-room, rooms}
-use Rattle.lifting.specs.Calls.{pairFields}
-use Rattle.lifting.specs.Left.{pairWord}
+use Rattle.partners.specs.Words.{pairFields, pairWord}
 use Rattle.lifting.specs.Ending.{wordsFile}
 
 pairs-length : (n r : ℕ) (w1 : List ℕ) → r ≤ length w1 → 4 + 3 * r ≡ length (wordsFile n r w1)

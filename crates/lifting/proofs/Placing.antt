@@ -22,7 +22,8 @@ use Rattle.cellfile.specs.Files.{zeros}
 use Rattle.slots.specs.Slots.{graphOf}
 use Rattle.sets.specs.Sets.{places, inSet, between, cellAt, heaviest, pairOf, Ready}
 use Rattle.lifting.specs.Calls.{withPairs, solution}
-use Rattle.lifting.specs.Left.{pairWord, LeftThere, SolvedIn}
+use Rattle.partners.specs.Words.{pairWord}
+use Rattle.lifting.specs.Left.{LeftThere, SolvedIn}
 use Rattle.lifting.specs.Gathered.{setWords, cellIn, FrontKept, CellsIn, Gathers, PlacesThere, PointsIn}
 use Rattle.lifting.specs.Gathered.{SetThere, SetSolved}
 use Rattle.lifting.proofs.Renaming.{Renames, both, solve-renamed, solve-fuel}

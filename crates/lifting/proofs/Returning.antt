@@ -19,9 +19,9 @@ use Rattle.matching.proofs.Demand.{slip-lifted}
 use Rattle.cellfile.specs.Answers.{Answer}
 use Rattle.reduction.specs.Writing.{Does}
 use Rattle.lifting.specs.Calls.{pairFile}
-use Rattle.lifting.specs.Left.{pairWord}
-use Rattle.lifting.specs.Back.{BackThere, Lifted}
-use Rattle.lifting.specs.Table.{TableThere, Listed}
+use Rattle.partners.specs.Words.{pairWord}
+use Rattle.partners.specs.Back.{BackThere, Lifted}
+use Rattle.partners.specs.Table.{TableThere, Listed}
 use Rattle.lifting.specs.Ending.{wordsFile, ReturnThere}
 use Rattle.lifting.proofs.Pairs.{pairs-file}
 

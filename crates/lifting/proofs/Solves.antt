@@ -21,10 +21,12 @@ use Rattle.reduction.specs.Writing.{Does}
 use Rattle.reduction.specs.Starting.{slipStart, StartDone}
 use Rattle.reduction.proofs.Layers.{refused, passed}
 use Rattle.reduction.proofs.Courses.{left-there}
-use Rattle.lifting.specs.Calls.{pairFields, pairFile, solution, graphAfter, solvedFile, solveFile, bySteps}
+use Rattle.partners.specs.Words.{pairFields}
+use Rattle.lifting.specs.Calls.{pairFile, solution, graphAfter, solvedFile, solveFile, bySteps}
 use Rattle.lifting.specs.Left.{LeftThere, SolvedIn}
 use Rattle.lifting.specs.Ending.{wordsFile}
-use Rattle.lifting.specs.Solving.{crowdedRow, solveRows}
+use Rattle.lifting.specs.Tail.{crowdedRow}
+use Rattle.lifting.specs.Solving.{solveRows}
 use Rattle.lifting.proofs.Pairs.{pairs-file}
 use Rattle.lifting.proofs.Solution.{solution-filed, solution-cells}
 

@@ -16,6 +16,7 @@ use Rattle.cellfile.specs.Refusals.{Row, first, fewWords, listRows, badSlip, di
 use Rattle.cellfile.specs.Refusals.{crowded, shortOutput}
 use Rattle.cellfile.specs.Answers.{Answer, answer}
 use Rattle.reduction.specs.Calls.{graphIn, stepsOn, stand, reduceSteps}
+use Rattle.partners.specs.Words.{pairFields}
 use Rattle.lifting.specs.declared.Paired.{Paired}
 use Rattle.lifting.specs.declared.Paired.the-variants.{Refused, Length}
 
@@ -25,9 +26,6 @@ paired (Refused k) = (k, [])
 paired (Length m) = (0, m ∷ [])
 
 -- A pairing as a file.
-abbrev pub pairFields : Pair → List ℕ
-pairFields e = e .0 ∷ e .1 ∷ 0 ∷ []
-
 abbrev pub pairFile : ℕ → List Pair → List ℕ
 pairFile n m = writeFile pairingLayout (record { cells = n; extra = []; entries = map pairFields (filed m) })
 

@@ -9,7 +9,7 @@ use Rattle.cellfile.specs.Loops.{fileOf}
 use Rattle.cellfile.specs.Answers.{Answer}
 use Rattle.reduction.specs.Writing.{Does}
 use Rattle.lifting.specs.Calls.{pairFile}
-use Rattle.lifting.specs.Back.{BackThere}
+use Rattle.partners.specs.Back.{BackThere}
 
 -- The pairing whose pairs are the first r words.
 abbrev pub wordsFile : ℕ → ℕ → List ℕ → List ℕ

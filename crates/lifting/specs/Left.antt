@@ -5,16 +5,11 @@ use Prim.Native.Nat.{ℕ, _≤_, _<_}
 use lib.ListN.{length, getD, take}
 use Rattle.matching.specs.Pairs.{Pair, Points}
 use Rattle.matching.specs.Graph.{Graph, cellsLeft}
-use Rattle.cellfile.specs.Fields.{packed}
-use Rattle.cellfile.specs.Files.{pairing as pairingLayout}
 use Rattle.slots.specs.Slots.{Holds, graphOf}
-use Rattle.lifting.specs.Calls.{pairFields, solution}
+use Rattle.partners.specs.Words.{pairWord}
+use Rattle.lifting.specs.Calls.{solution}
 use Rattle.lifting.specs.declared.solving.Solved.{Solved}
 use Rattle.lifting.specs.declared.solving.Solved.the-variants.{Crowded, Pairs}
-
--- A pair as a word of a pairing.
-abbrev pub pairWord : Pair → ℕ
-pairWord e = packed (pairingLayout .entry) (pairFields e)
 
 -- e slots hold a graph of n cells, with points of 44 bits.
 pub record LeftThere (n e : ℕ) (w1 w2 : List ℕ) : Type 0 where

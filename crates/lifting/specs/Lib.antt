@@ -2,12 +2,7 @@
 pub mod Calls
 pub mod Left
 pub mod Gathered
-pub mod Back
-pub mod Table
-pub mod Entering
-pub mod Unwinding
 pub mod Ending
-pub mod Words
 pub mod Tail
 pub mod Solving
 pub mod Lifting

@@ -2,13 +2,10 @@
 use mathlib.Core.List.{List, [], _∷_, _++_}
 use Prim.Native.Nat.{ℕ}
 use Rattle.matching.specs.Graph.{cellsLeft}
-use Rattle.cellfile.specs.Refusals.{Row, crowded}
+use Rattle.cellfile.specs.Refusals.{Row}
 use Rattle.reduction.specs.Starting.{slipStart}
 use Rattle.lifting.specs.Calls.{cells, graphAfter, bySteps}
-
--- Refusal 11, by the number of cells that have pairs.
-abbrev pub crowdedRow : ℕ → Row
-crowdedRow k = (11, crowded k)
+use Rattle.lifting.specs.Tail.{crowdedRow}
 
 -- Refusals 1 to 8, and 11 of what the slip leaves.
 abbrev pub solveRows : List ℕ → List ℕ → List ℕ → List Row

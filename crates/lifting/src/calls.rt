@@ -3,9 +3,9 @@ use crate::Paired;
 use crate::ends;
 use crate::solving;
 use crate::solving::Solved;
-use crate::table;
 use cellfile::form;
 use cellfile::form::Checked;
+use partners::table;
 use reduction::lists;
 use reduction::starting;
 use reduction::starting::Started;
@@ -16,8 +16,9 @@ ghost use Rattle.slots.specs.Slots.{graphOf};
 ghost use Rattle.reduction.specs.Writing.{Does};
 ghost use Rattle.lifting.specs.Calls.{paired, pairFile, solution, solveFile, liftFile};
 ghost use Rattle.lifting.specs.Left.{LeftThere};
-ghost use Rattle.lifting.specs.Solving.{crowdedRow, solveRows};
-ghost use Rattle.lifting.specs.Lifting.{liftStart, PairingThere, LiftsPairing, TailThere, LiftsTail};
+ghost use Rattle.lifting.specs.Tail.{TailThere, crowdedRow};
+ghost use Rattle.lifting.specs.Solving.{solveRows};
+ghost use Rattle.lifting.specs.Lifting.{liftStart, PairingThere, LiftsPairing, LiftsTail};
 
 // Refusals 11 and 12, and the solution of the graph of n cells in e slots.
 fn solve_tail(n: usize, e: usize, w1: &mut [u64], w2: &mut [u64], out: &mut [u8]) -> Paired

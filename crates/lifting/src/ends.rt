@@ -1,8 +1,8 @@
 // The end of a call: its pairing is written. See specs/Ending.
 use crate::Paired;
-use crate::back;
-use crate::table;
 use cellfile::write;
+use partners::back;
+use partners::table;
 ghost use mathlib.Core.List.{_∷_, []};
 ghost use Prim.Native.Nat.{_≤_};
 ghost use lib.ListN.{length};

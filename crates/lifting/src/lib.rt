@@ -1,10 +1,8 @@
 // Solving what a slip leaves, lifting a pairing through a slip, and pairing a list.
-pub mod back;
 mod calls;
 mod ends;
 mod pairing;
 pub mod solving;
-pub mod table;
 
 use cellfile::work;
 ghost use mathlib.Core.Path.{_≡_};

@@ -3,16 +3,17 @@ use crate::Paired;
 use crate::ends;
 use crate::solving;
 use crate::solving::Solved;
-use crate::table;
+use partners::table;
 use reduction::starting;
 use reduction::starting::Started;
 ghost use mathlib.Core.List.{_∷_, [], _++_};
+ghost use Rattle.matching.specs.Graph.{cellsLeft};
 ghost use Rattle.cellfile.specs.Files.{cellsOf, lent};
 ghost use Rattle.reduction.specs.Calls.{reduceSteps};
 ghost use Rattle.reduction.specs.Starting.{listStart};
 ghost use Rattle.reduction.specs.Writing.{Does};
 ghost use Rattle.lifting.specs.Calls.{paired, graphAfter, pairingFile};
-ghost use Rattle.lifting.specs.Tail.{TailThere, Tails, crowdRow};
+ghost use Rattle.lifting.specs.Tail.{TailThere, Tails, crowdedRow};
 
 // Refusal 11; else the solution of what is left in e slots is brought back through the trail of t words and written.
 fn pair_tail(n: usize, e: usize, t: usize, w1: &mut [u64], w2: &mut [u64], out: &mut [u8]) -> Paired
@@ -31,8 +32,8 @@ fn pair_tail(n: usize, e: usize, t: usize, w1: &mut [u64], w2: &mut [u64], out: 
 // Pair, which leaves anything in the work buffers.
 pub fn pair_in(list: &[u8], work_a: &mut [u64], work_b: &mut [u64], out: &mut [u8]) -> Paired
     ensures { λ r. ⌜ Does (listStart (now (list .entry)) (lent (now («work_a» .entry)) (now («work_b» .entry)))
-        ++ crowdRow (cellsOf (now (list .entry)))
-        (graphAfter (now (list .entry)) (reduceSteps (now (list .entry)))) ∷ [])
+        ++ crowdedRow (cellsLeft (cellsOf (now (list .entry)))
+        (graphAfter (now (list .entry)) (reduceSteps (now (list .entry))))) ∷ [])
         ((pairingFile (now (list .entry)), now (out .entry), now (out .exit)) ∷ []) (paired r) ⌝ }
 {
     match starting::start_reduce(list, work_a, work_b) {

@@ -1,7 +1,7 @@
 -- `lift_tail` answers refusal 9, or what `lift_pairing` answers.
 use mathlib.Core.Path.{sym, ap, _∙_}
 use Rattle.cellfile.specs.Answers.{checked}
-use Rattle.lifting.specs.Lifting.{TailThere}
+use Rattle.lifting.specs.Tail.{TailThere}
 use Rattle.lifting.proofs.Lifting.{tail-pairs, nine-refused, nine-there, nine-passed}
 use borrow.Author.Needs.{needs}
 use Rattle.lifting.proofs.calls.lift_tail.Statement.{statement}

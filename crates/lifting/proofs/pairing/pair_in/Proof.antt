@@ -1,13 +1,14 @@
 -- `pair_in` answers what the start refuses, or what `pair_tail` answers.
 use mathlib.Core.Path.{refl, subst}
 use mathlib.Core.List.{[], _∷_}
+use Rattle.matching.specs.Graph.{cellsLeft}
 use Rattle.cellfile.specs.Files.{cellsOf, lent}
 use Rattle.reduction.specs.Calls.{reduceSteps}
 use Rattle.reduction.specs.Starting.{listStart, Starts}
 use Rattle.reduction.proofs.Layers.{refused}
 use Rattle.reduction.proofs.Starts.{started, not-started}
 use Rattle.lifting.specs.Calls.{graphAfter}
-use Rattle.lifting.specs.Tail.{crowdRow}
+use Rattle.lifting.specs.Tail.{crowdedRow}
 use Rattle.lifting.proofs.Tailing.{reduce-tail, pair-passed}
 use borrow.Author.Needs.{needs}
 use Rattle.lifting.proofs.pairing.pair_in.Statement.{statement}
@@ -42,7 +43,7 @@ returns c =
     let a = start .before .before .before .before .before .before .before .args in
     let s = subst (Starts _ _ _ _ _) (c .before .k .given .1) (start .start-reduce .ensures) in
     refused (listStart (a .list .now) (lent (a .work-a .now) (a .work-b .now)))
-    (crowdRow (cellsOf (a .list .now)) (graphAfter (a .list .now) (reduceSteps (a .list .now))) ∷ []) 0 []
+    (crowdedRow (cellsLeft (cellsOf (a .list .now)) (graphAfter (a .list .now) (reduceSteps (a .list .now)))) ∷ []) 0 []
     (not-started _ _ _ _ _ _ s) (refl, tt)
 
 same-length-3 : tie.Need-same-length-3

@@ -1,0 +1,53 @@
+-- A pairing into the table of partners and out of it. Inner contracts cite this.
+use mathlib.Core.Path.{_≡_}
+use mathlib.Core.Logic.{_≢_}
+use mathlib.Core.Bool.{Bool, false}
+use mathlib.Core.List.{List, map}
+use Prim.Native.Nat.{ℕ, _≤_, _<_}
+use lib.ListN.{length, getD, take}
+use Rattle.matching.specs.Pairs.{Pair, Points, Each}
+use Rattle.matching.specs.Pairing.{Once}
+use Rattle.matching.specs.Listed.{shortList, filed}
+use Rattle.matching.specs.Graph.{Graph}
+use Rattle.cellfile.specs.Files.{countOf, pairsOf}
+use Rattle.cellfile.specs.Refusals.{badPairing, noPairing}
+use Rattle.reduction.specs.Pairs.{pairWord as shortWord}
+use Rattle.partners.specs.Back.{Mates}
+use Rattle.partners.specs.Words.{pairWord}
+
+-- A pairing file that has passed refusal 9, and the short list of a graph of n cells as words.
+pub record FileThere (n : ℕ) (w : Points) (file : List ℕ) (k r : ℕ) (w1 w2 : List ℕ) : Type 0 where
+  pub cells : n ≤ 1024
+  pub graph : Graph n w
+  pub small : (a b : ℕ) → w a b < 17592186044416
+  pub formed : badPairing n file ≡ false
+  pub count : k ≡ countOf file
+  pub room1 : 8192 ≤ length w1
+  pub room2 : 8192 ≤ length w2
+  pub most : r ≤ 4096
+  pub length-is : r ≡ length (shortList n w)
+  pub words : take r w1 ≡ map shortWord (shortList n w)
+
+-- Words of the second buffer below 4,096 (the trail) did not change.
+abbrev pub TrailKept : List ℕ → List ℕ → Type 0
+TrailKept w2 w2′ = (j : ℕ) → j < 4096 → getD w2′ j 0 ≡ getD w2 j 0
+
+-- Refusal 10; where it does not hold the table has the partners.
+pub record Entered (w : Points) (file w2 w2′ : List ℕ) (refused : Bool) : Type 0 where
+  pub answer : refused ≡ noPairing w (pairsOf file)
+  pub mates : refused ≡ false → Mates w2′ (pairsOf file)
+  pub aside : TrailKept w2 w2′
+
+-- A pairing of cells below n in the table, and its pairs in file order as words.
+pub record TableThere (n : ℕ) (w1 w2 : List ℕ) (m : List Pair) : Type 0 where
+  pub cells : n ≤ 1024
+  pub room1 : 8192 ≤ length w1
+  pub room2 : 8192 ≤ length w2
+  pub within : Each (λ a b. (a < n) × (b < n) × (a ≢ b)) m
+  pub once : Once m
+  pub mates : Mates w2 m
+
+pub record Listed (m : List Pair) (w1′ : List ℕ) (r : ℕ) : Type 0 where
+  pub most : r ≤ 512
+  pub count : r ≡ length (filed m)
+  pub pairs : take r w1′ ≡ map pairWord (filed m)
