@@ -1,11 +1,12 @@
-//! What is special about a call of reduce or replay, by name, so that a
+//! What is special about a call that writes files, by name, so that a
 //! comparison which never met it fails.
 
-use crate::graph::{Graph, Step};
-use crate::reference::{Answer, Input, WORK_WORDS};
+use crate::graph::{heaviest_of_path, heaviest_of_ring, Graph, Step};
+use crate::lifting::{self, Held, Taken};
+use crate::reference::{Answer, Input, Pair, MOST_CELLS, MOST_SOLVED, WORK_WORDS};
 
-/// Cases of both calls: of the steps taken, of the list, of what is lent.
-pub const OF_BOTH: [&str; 26] = [
+/// Cases of every call: of the steps taken, of the list, of what is lent.
+pub const OF_ALL: [&str; 25] = [
     "leaf of a lone pair",
     "leaf at a cell of more pairs",
     "leaf that takes a pair to zero",
@@ -27,29 +28,80 @@ pub const OF_BOTH: [&str; 26] = [
     "100 steps or more",
     "300 steps or more",
     "1,000 cells or more with pairs",
-    "4,000 pairs or more left",
     "exactly enough room",
     "more room than needed",
     "work buffers of more words",
     "an output absent",
 ];
 
-/// Cases of replay alone.
-pub const OF_REPLAY: [&str; 7] = [
+/// Cases of the calls that can leave so much.
+pub const OF_MANY_LEFT: [&str; 1] = ["4,000 pairs or more left"];
+
+/// Cases of the calls that are given a slip.
+pub const OF_SLIP: [&str; 6] = [
     "chain with an end of one pair",
     "slip that stops early",
     "slip to the end",
     "first step not allowed",
     "step between others not allowed",
     "last step of many not allowed",
-    "short list too long by one byte",
 ];
 
-/// Cases of reduce alone.
-pub const OF_REDUCE: [&str; 3] = [
+/// Cases of the calls that write one file.
+pub const OF_ONE_FILE: [&str; 1] = ["file too long by one byte"];
+
+/// Cases of reduce, which writes two.
+pub const OF_TWO_FILES: [&str; 3] = [
     "slip alone too long by one byte",
     "short list alone too long by one byte",
     "both files too long",
+];
+
+/// Cases of the calls that solve what is left; the last two are refused.
+pub const OF_SOLVING: [&str; 6] = [
+    "no pairs left",
+    "11 cells left",
+    "12 cells left",
+    "several heaviest pairings of what is left",
+    "13 cells left",
+    "14 cells or more left",
+];
+
+/// Cases of the calls that lift.
+pub const OF_WAY_BACK: [&str; 15] = [
+    "leaf undone, u unpaired",
+    "leaf undone, u paired",
+    "ring undone, u, z held",
+    "ring undone, u, z not held",
+    "ring of which several are best",
+    "chain undone, u, z held and v paired",
+    "chain undone, v, z held and u paired",
+    "chain undone, u, v held and no direct pair",
+    "chain undone, u, v held and lighter",
+    "chain undone, u, v held and equal",
+    "chain undone, u, v held and kept",
+    "chain undone, none of the three held",
+    "chain of which several are best",
+    "several best of a row of 300 cells or more",
+    "300 pairs or more written",
+];
+
+/// Cases of lift alone: two of the way back, which a heaviest pairing seldom
+/// meets, and those of the pairing it is given; the last four are refused.
+pub const OF_LIFT: [&str; 13] = [
+    "chain undone, u, z held and v unpaired",
+    "chain undone, v, z held and u unpaired",
+    "empty pairing, pairs left",
+    "pairing of one pair",
+    "pairing of a pair that is no entry",
+    "pairing of a pair whose entry has zero points",
+    "heaviest pairing",
+    "pairing that is not heaviest",
+    "pairing with as many pairs as can be, not heaviest",
+    "a cell twice",
+    "a pair of no entry",
+    "a pair of an entry of zero points",
+    "a pair of an entry that has gone",
 ];
 
 /// The cases that hold of a call, with what it was lent and its answer.
@@ -63,9 +115,12 @@ pub fn cases(
         Ok(_) => {
             let mut met = of_steps(input);
             met.extend(of_room(input, work, room));
+            met.extend(of_pairings(input));
             met
         }
         Err(8) => of_bad_step(input),
+        Err(10) => of_bad_pair(input),
+        Err(11) => of_many_cells(input),
         Err(12) => of_short_room(&input.lengths(), room),
         Err(_) => Vec::new(),
     }
@@ -83,8 +138,7 @@ fn of_steps(input: &Input) -> Vec<&'static str> {
     }
     for &named in &input.steps {
         let step = graph.step(named).expect("a step of an accepted call");
-        met.extend(of_step(&graph, &step));
-        graph.take(&step);
+        met.extend(of_step(&mut graph, step));
     }
     if input.steps.len() >= 100 {
         met.push("100 steps or more");
@@ -96,9 +150,9 @@ fn of_steps(input: &Input) -> Vec<&'static str> {
         met.push("no step and pairs left");
     }
     if graph.pairs().len() >= 4000 {
-        met.push("4,000 pairs or more left");
+        met.extend(OF_MANY_LEFT);
     }
-    if input.is_replay() {
+    if input.has_slip() {
         met.push(match graph.first_step() {
             Some(_) => "slip that stops early",
             None => "slip to the end",
@@ -107,50 +161,50 @@ fn of_steps(input: &Input) -> Vec<&'static str> {
     met
 }
 
-// Cases of one step, looked at before it and after it.
-fn of_step(graph: &Graph, step: &Step) -> Vec<&'static str> {
-    let mut after = graph.clone();
-    after.take(step);
-    match step {
-        Step::Leaf { u, .. } => of_leaf(graph, &after, *u),
-        Step::Ring { cells } => of_ring(graph, &after, cells),
-        Step::Chain { cells } => of_chain(graph, &after, cells, step.named().cell),
+// Takes one step; cases of it, looked at before and after.
+fn of_step(graph: &mut Graph, step: Step) -> Vec<&'static str> {
+    let taken = Taken::new(graph, step);
+    let ends = taken.ends();
+    let before = ends.map(|end| graph.degree(end));
+    graph.take(&taken.step);
+    match &taken.step {
+        Step::Leaf { u, .. } => of_leaf(before[0], graph.degree(*u)),
+        Step::Ring { cells } => of_ring(before[0], graph.degree(cells[0]), cells.len()),
+        Step::Chain { .. } => of_chain(&taken, before, graph),
     }
 }
 
-// Cases of a leaf whose partner is u.
-fn of_leaf(graph: &Graph, after: &Graph, u: u64) -> Vec<&'static str> {
-    if graph.degree(u) == 1 {
+// Cases of a leaf whose partner u has so many pairs before and after it.
+fn of_leaf(before: usize, after: usize) -> Vec<&'static str> {
+    if before == 1 {
         return vec!["leaf of a lone pair"];
     }
     let mut met = vec!["leaf at a cell of more pairs"];
-    if after.degree(u) < graph.degree(u) - 1 {
+    if after < before - 1 {
         met.push("leaf that takes a pair to zero");
     }
     met
 }
 
-// Cases of a ring, u first.
-fn of_ring(graph: &Graph, after: &Graph, cells: &[u64]) -> Vec<&'static str> {
-    let u = cells[0];
-    let mut met = vec![match graph.degree(u) {
+// Cases of a ring of so many cells whose u has so many pairs before and after it.
+fn of_ring(before: usize, after: usize, cells: usize) -> Vec<&'static str> {
+    let mut met = vec![match before {
         2 => "ring of degree two only",
         _ => "ring at a cell of more pairs",
     }];
-    if after.degree(u) == graph.degree(u) - 2 {
+    if after == before - 2 {
         met.push("ring whose pair comes out zero");
     }
-    if graph.degree(u) > 2 && cells.len() > 300 {
+    if before > 2 && cells > 300 {
         met.push("ring of 300 cells or more at another");
     }
     met
 }
 
-// Cases of a chain from u to v.
-fn of_chain(graph: &Graph, after: &Graph, cells: &[u64], z: u64) -> Vec<&'static str> {
-    let (u, v) = (cells[0], cells[cells.len() - 1]);
-    let present = graph.points(u, v);
-    let chain = points_of_chain(graph, cells);
+// Cases of a chain whose ends have so many pairs before it, and of the graph after it.
+fn of_chain(taken: &Taken, before: [usize; 2], after: &Graph) -> Vec<&'static str> {
+    let ([u, v], z) = (taken.ends(), taken.step.named().cell);
+    let (present, chain) = (taken.present, taken.points_of_chain());
     let mut met = vec![if present == 0 {
         "chain without a direct pair"
     } else if present > chain {
@@ -167,28 +221,16 @@ fn of_chain(graph: &Graph, after: &Graph, cells: &[u64], z: u64) -> Vec<&'static
     } else {
         "z above both ends of a chain"
     });
-    if cells.len() >= 302 {
+    if taken.row.len() > 300 {
         met.push("chain of 300 cells or more");
     }
     if after.degree(z) < 2 {
         met.push("chain with a pair of z that comes out zero");
     }
-    if graph.degree(u) == 1 || graph.degree(v) == 1 {
+    if before.contains(&1) {
         met.push("chain with an end of one pair");
     }
     met
-}
-
-// H(P) minus H(Q): what the chain gives to u, v where there is no direct pair.
-fn points_of_chain(graph: &Graph, cells: &[u64]) -> u64 {
-    let along = cells.windows(2);
-    let pairs = along.map(|two| ((two[0], two[1]), graph.points(two[0], two[1])));
-    let mut alone = Graph::new(pairs);
-    let step = Step::Chain {
-        cells: cells.to_vec(),
-    };
-    alone.take(&step);
-    alone.points(cells[0], cells[cells.len() - 1])
 }
 
 // Cases of what an accepted call is lent.
@@ -219,7 +261,7 @@ fn of_short_room(lengths: &[usize], room: &[usize]) -> Vec<&'static str> {
     let missing = |output: usize| lengths[output].saturating_sub(room[output]);
     let mut met = Vec::new();
     match (lengths.len(), missing(0), missing(lengths.len() - 1)) {
-        (1, 1, _) => met.push("short list too long by one byte"),
+        (1, 1, _) => met.extend(OF_ONE_FILE),
         (2, 1, 0) => met.push("slip alone too long by one byte"),
         (2, 0, 1) => met.push("short list alone too long by one byte"),
         (2, 1.., 1..) => met.push("both files too long"),
@@ -229,4 +271,214 @@ fn of_short_room(lengths: &[usize], room: &[usize]) -> Vec<&'static str> {
         met.push("an output absent");
     }
     met
+}
+
+// Solving and lifting
+
+// Cases of the pairings that an accepted call reads, solves for and writes.
+fn of_pairings(input: &Input) -> Vec<&'static str> {
+    let mut met = Vec::new();
+    if input.solves() {
+        met.extend(of_solving(&input.left.graph, &input.short_pairing));
+    }
+    if input.has_pairing() {
+        met.extend(of_given_pairing(input));
+    }
+    if input.lifts() {
+        met.extend(of_way_back(&input.left.taken, input.short_pairing.clone()));
+    }
+    met.retain(|name| input.has_pairing() || !OF_LIFT.contains(name));
+    met
+}
+
+// Cases of what is solved.
+fn of_solving(graph: &Graph, solved: &Held) -> Vec<&'static str> {
+    let mut met = Vec::new();
+    match graph.cells().count() {
+        0 => met.push("no pairs left"),
+        11 => met.push("11 cells left"),
+        12 => met.push("12 cells left"),
+        _ => {}
+    }
+    if *solved != solved_from_above(graph) {
+        met.push("several heaviest pairings of what is left");
+    }
+    met
+}
+
+// A heaviest pairing by the same tie, but with the highest cell for the lowest.
+fn solved_from_above(graph: &Graph) -> Held {
+    let turned = |(a, b): Pair| (MOST_CELLS - b, MOST_CELLS - a);
+    let pairs = graph.pairs().into_iter();
+    let above = Graph::new(pairs.map(|(pair, points)| (turned(pair), points)));
+    Held::new(lifting::solve(&above).pairs().into_iter().map(turned))
+}
+
+// Cases of more cells left than can be solved.
+fn of_many_cells(input: &Input) -> Vec<&'static str> {
+    vec![match input.left.graph.cells().count() {
+        13 => "13 cells left",
+        _ => "14 cells or more left",
+    }]
+}
+
+// Cases of the pairing that lift is given and accepts.
+fn of_given_pairing(input: &Input) -> Vec<&'static str> {
+    let graph = &input.left.graph;
+    let pairs = input.short_pairing.pairs();
+    let mut met = Vec::new();
+    match pairs.len() {
+        0 if graph.cells().next().is_some() => met.push("empty pairing, pairs left"),
+        1 => met.push("pairing of one pair"),
+        _ => {}
+    }
+    let entries = input.entries();
+    for pair in &pairs {
+        match entries.get(pair) {
+            None => met.push("pairing of a pair that is no entry"),
+            Some(0) => met.push("pairing of a pair whose entry has zero points"),
+            Some(_) => {}
+        }
+    }
+    if (1..=MOST_SOLVED).contains(&graph.cells().count()) {
+        met.extend(of_weight(graph, &input.short_pairing));
+    }
+    met
+}
+
+// Cases of a pairing beside the heaviest.
+fn of_weight(graph: &Graph, held: &Held) -> Vec<&'static str> {
+    let points = |held: &Held| {
+        let pairs = held.pairs().into_iter();
+        pairs.map(|(a, b)| graph.points(a, b)).sum::<u64>()
+    };
+    if points(held) == points(&lifting::solve(graph)) {
+        return vec!["heaviest pairing"];
+    }
+    let free = |&((a, b), _): &(Pair, u64)| !held.is_paired(a) && !held.is_paired(b);
+    if graph.pairs().iter().any(free) {
+        vec!["pairing that is not heaviest"]
+    } else {
+        vec!["pairing with as many pairs as can be, not heaviest"]
+    }
+}
+
+// Cases of what is wrong with a pairing of right form: the first thing there is.
+fn of_bad_pair(input: &Input) -> Vec<&'static str> {
+    let given = input.given_pairs();
+    let is_left = |&&(a, b): &&Pair| input.left.graph.points(a, b) > 0;
+    let Some(&absent) = given.iter().find(|pair| !is_left(pair)) else {
+        return vec!["a cell twice"];
+    };
+    vec![match input.entries().get(&absent) {
+        None => "a pair of no entry",
+        Some(0) => "a pair of an entry of zero points",
+        Some(_) => "a pair of an entry that has gone",
+    }]
+}
+
+// Cases of the way back from a pairing, and of what it makes of it.
+fn of_way_back(taken: &[Taken], mut held: Held) -> Vec<&'static str> {
+    let mut met = Vec::new();
+    for step in taken.iter().rev() {
+        met.extend(of_undo(step, &held));
+        step.undo(&mut held);
+    }
+    if held.pairs().len() >= 300 {
+        met.push("300 pairs or more written");
+    }
+    met
+}
+
+// Cases of one step undone, looked at before that.
+fn of_undo(taken: &Taken, held: &Held) -> Vec<&'static str> {
+    let z = taken.step.named().cell;
+    match &taken.step {
+        Step::Leaf { u, .. } if held.is_paired(*u) => vec!["leaf undone, u paired"],
+        Step::Leaf { .. } => vec!["leaf undone, u unpaired"],
+        Step::Ring { cells } => of_ring_undone(taken, held.holds(cells[0], z)),
+        Step::Chain { .. } => of_chain_undone(taken, held, taken.ends(), z),
+    }
+}
+
+// Cases of a ring undone, with its pair u, z held or not.
+fn of_ring_undone(taken: &Taken, is_held: bool) -> Vec<&'static str> {
+    let row = &taken.row;
+    let (name, several) = if is_held {
+        ("ring undone, u, z held", several_best_of_ring(row))
+    } else {
+        let less_u = &row[1..row.len() - 1];
+        ("ring undone, u, z not held", several_best_of_path(less_u))
+    };
+    let mut met = vec![name];
+    if several {
+        met.push("ring of which several are best");
+    }
+    if several && row.len() > 300 {
+        met.push("several best of a row of 300 cells or more");
+    }
+    met
+}
+
+// Cases of a chain undone.
+fn of_chain_undone(taken: &Taken, held: &Held, [u, v]: [u64; 2], z: u64) -> Vec<&'static str> {
+    let row = &taken.row[..];
+    let last = row.len() - 1;
+    let chain = taken.points_of_chain();
+    let (name, put) = if held.holds(u, z) && held.is_paired(v) {
+        ("chain undone, u, z held and v paired", &row[..last])
+    } else if held.holds(u, z) {
+        ("chain undone, u, z held and v unpaired", &row[..last])
+    } else if held.holds(v, z) && held.is_paired(u) {
+        ("chain undone, v, z held and u paired", &row[1..])
+    } else if held.holds(v, z) {
+        ("chain undone, v, z held and u unpaired", &row[1..])
+    } else if !held.holds(u, v) {
+        ("chain undone, none of the three held", &row[1..last])
+    } else if taken.present > chain {
+        ("chain undone, u, v held and kept", &row[1..last])
+    } else if taken.present == chain {
+        ("chain undone, u, v held and equal", row)
+    } else if taken.present > 0 {
+        ("chain undone, u, v held and lighter", row)
+    } else {
+        ("chain undone, u, v held and no direct pair", row)
+    };
+    let mut met = vec![name];
+    if several_best_of_path(put) {
+        met.push("chain of which several are best");
+        if put.len() > 300 {
+            met.push("several best of a row of 300 cells or more");
+        }
+    }
+    met
+}
+
+// Whether a path has several heaviest pairings: some pair that its best leaves
+// out can be taken without loss.
+fn several_best_of_path(row: &lifting::Row) -> bool {
+    let best = lifting::best_of_path(row);
+    let points: Vec<u64> = row.iter().map(|&(_, points)| points).collect();
+    let whole = heaviest_of_path(&points);
+    let taken = |place: usize| {
+        let before = &points[..place.saturating_sub(1)];
+        let after = points.get(place + 2..).unwrap_or(&[]);
+        heaviest_of_path(before) + points[place] + heaviest_of_path(after)
+    };
+    (0..row.len()).any(|place| !best.contains(&row[place].0) && taken(place) == whole)
+}
+
+// Whether a ring has several heaviest pairings.
+fn several_best_of_ring(row: &lifting::Row) -> bool {
+    let best = lifting::best_of_ring(row);
+    let mut points: Vec<u64> = row.iter().map(|&(_, points)| points).collect();
+    let whole = heaviest_of_ring(&points);
+    for (pair, _) in row {
+        let taken = points[0] + heaviest_of_path(&points[2..points.len() - 1]);
+        if !best.contains(pair) && taken == whole {
+            return true;
+        }
+        points.rotate_left(1);
+    }
+    false
 }

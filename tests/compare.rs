@@ -1,9 +1,10 @@
 //! The comparison: every call of the C interface against the independent
 //! implementation, on worked rows and on many random inputs.
 //!
-//!     compare [SEED [CALLS [WRITING CALLS]]]
+//!     compare [SEED [CALLS [WRITING CALLS [LIFTING CALLS]]]]
 //!
-//! CALLS are those of weigh, WRITING CALLS those of replay and reduce together.
+//! CALLS are those of weigh, WRITING CALLS those of replay and reduce together,
+//! LIFTING CALLS those of solve, lift and pair together.
 //! Each call is made over lent memory with guards round it. Its number, its
 //! answers, every work word and every byte it was lent are looked at afterwards.
 //! Exit status 1 if anything differs, or if some answer was met too seldom.
@@ -20,6 +21,12 @@ mod counts;
 mod graph;
 mod inputs;
 mod lent;
+mod lift;
+mod liftcheck;
+mod lifting;
+mod lifting_rows;
+mod pair;
+mod pairings;
 mod reduce;
 mod reference;
 mod replay;
@@ -27,6 +34,7 @@ mod rows;
 mod selfcheck;
 mod shapes;
 mod slips;
+mod solve;
 mod weigh;
 mod writing;
 
@@ -35,21 +43,23 @@ use weigh::Weighing;
 const SEED: u64 = 20_180_820;
 const CALLS: u64 = 24_000;
 const WRITING_CALLS: u64 = 20_000;
+const LIFTING_CALLS: u64 = 25_000;
 
 // The seed and the numbers of calls, from the arguments where they are given.
-fn arguments() -> Option<(u64, u64, u64)> {
+fn arguments() -> Option<(u64, u64, u64, u64)> {
     let words: Vec<String> = env::args().skip(1).collect();
     let number = |place: usize, usual: u64| match words.get(place) {
         None => Some(usual),
         Some(word) => word.parse().ok(),
     };
-    if words.len() > 3 {
+    if words.len() > 4 {
         return None;
     }
     Some((
         number(0, SEED)?,
         number(1, CALLS)?,
         number(2, WRITING_CALLS)?,
+        number(3, LIFTING_CALLS)?,
     ))
 }
 
@@ -69,8 +79,8 @@ fn print_time(seed: u64, calls: u64, start: Instant) {
 
 // Runs the comparison and ends with 0, 1 for a difference or too few calls, 2 for bad arguments.
 fn main() {
-    let Some((seed, calls, writing_calls)) = arguments() else {
-        println!("usage: compare [SEED [CALLS [WRITING CALLS]]]");
+    let Some((seed, calls, writing_calls, lifting_calls)) = arguments() else {
+        println!("usage: compare [SEED [CALLS [WRITING CALLS [LIFTING CALLS]]]]");
         exit(2);
     };
     let start = Instant::now();
@@ -78,9 +88,15 @@ fn main() {
     print_time(seed, calls, start);
     let mut short = weighing.print();
     selfcheck::run(seed);
+    liftcheck::run(seed);
     let half = writing_calls / 2;
     short.extend(compare_writing::<replay::Replay>(seed, 0..half));
     short.extend(compare_writing::<reduce::Reduce>(seed, half..writing_calls));
+    // Lift has more to choose from than the others, so it has more calls.
+    let [solved, lifted, end] = [3, 7, 10].map(|part| writing_calls + lifting_calls * part / 10);
+    short.extend(compare_writing::<solve::Solve>(seed, writing_calls..solved));
+    short.extend(compare_writing::<lift::Lift>(seed, solved..lifted));
+    short.extend(compare_writing::<pair::Pair>(seed, lifted..end));
     for line in &short {
         println!("{line}");
     }

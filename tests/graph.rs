@@ -6,6 +6,7 @@
 
 use std::collections::BTreeMap;
 
+use crate::lifting::Taken;
 use crate::reference::Pair;
 
 pub const LEAF: u64 = 1;
@@ -155,6 +156,14 @@ impl Graph {
     fn points_along(&self, cells: &[u64]) -> Vec<u64> {
         let pairs = cells.windows(2);
         pairs.map(|two| self.points(two[0], two[1])).collect()
+    }
+
+    /// The pairs of neighbours in a row, with their points.
+    pub fn row_of(&self, cells: &[u64]) -> Vec<(Pair, u64)> {
+        let pairs = cells
+            .windows(2)
+            .map(|two| (two[0].min(two[1]), two[0].max(two[1])));
+        pairs.zip(self.points_along(cells)).collect()
     }
 }
 
@@ -314,21 +323,29 @@ impl Graph {
 
 // Slips
 
-/// What the steps of a slip leave: a graph, and the sum of what they carry.
+/// What the steps of a slip leave: a graph, the sum of what they carry, and
+/// the steps themselves for the way back.
 pub struct Left {
     pub graph: Graph,
     pub carried: u64,
+    pub taken: Vec<Taken>,
 }
 
 impl Left {
-    // What the empty slip leaves.
-    fn new(graph: Graph) -> Left {
-        Left { graph, carried: 0 }
+    /// What the empty slip leaves.
+    pub fn new(graph: Graph) -> Left {
+        Left {
+            graph,
+            carried: 0,
+            taken: Vec::new(),
+        }
     }
 
     // Takes one more step.
-    fn take(&mut self, step: &Step) {
-        self.carried += self.graph.take(step);
+    fn take(&mut self, step: Step) {
+        let taken = Taken::new(&self.graph, step);
+        self.carried += self.graph.take(&taken.step);
+        self.taken.push(taken);
     }
 }
 
@@ -338,7 +355,7 @@ pub fn replay(graph: Graph, slip: &[Named]) -> (Left, Option<usize>) {
     let mut left = Left::new(graph);
     for (place, &named) in slip.iter().enumerate() {
         match left.graph.step(named) {
-            Some(step) => left.take(&step),
+            Some(step) => left.take(step),
             None => return (left, Some(place)),
         }
     }
@@ -350,8 +367,8 @@ pub fn reduce(graph: Graph) -> (Left, Vec<Named>) {
     let mut left = Left::new(graph);
     let mut slip = Vec::new();
     while let Some(step) = left.graph.first_step() {
-        left.take(&step);
         slip.push(step.named());
+        left.take(step);
     }
     (left, slip)
 }

@@ -478,8 +478,8 @@ fn spoil_order(random: &mut Random, list: &mut Form) {
 
 // Faults of pairings
 
-// Spoils a pairing of a list so that refusal 9 or 10 is likely to hold.
-fn spoil_pairing(random: &mut Random, pairing: &mut Form, list: &Form, number: u32) {
+/// Spoils a pairing of a list so that refusal 9 or 10 is likely to hold.
+pub fn spoil_pairing(random: &mut Random, pairing: &mut Form, list: &Form, number: u32) {
     match number {
         9 => spoil_form(random, pairing, list),
         10 => spoil_pairs(random, pairing, list),
@@ -658,8 +658,8 @@ fn add_touching_pair(random: &mut Random, pairing: &mut Form, list: &Form) {
     }
 }
 
-// Adds the pair of an entry where the order by a puts it.
-fn add_sorted(pairing: &mut Form, [a, b, _]: Entry) {
+/// Adds the pair of an entry where the order by a puts it.
+pub fn add_sorted(pairing: &mut Form, [a, b, _]: Entry) {
     pairing.entries.push([a, b, 0]);
     pairing.entries.sort();
     pairing.count();
@@ -711,13 +711,17 @@ pub fn good_or_bad_list(random: &mut Random, mut list: Form) -> Vec<u8> {
     list.bytes()
 }
 
-/// The bytes of a list as it is, three times of four as `good_or_bad_list` has it.
-pub fn seldom_bad_list(random: &mut Random, list: Form) -> Vec<u8> {
+/// The bytes of a list as it is, three times of four as `good_or_bad_list` has
+/// it; once in a while only out of order, which other faults would hide.
+pub fn seldom_bad_list(random: &mut Random, mut list: Form) -> Vec<u8> {
     if random.once_in(4) {
-        list.bytes()
-    } else {
-        good_or_bad_list(random, list)
+        return list.bytes();
     }
+    if random.once_in(16) {
+        spoil_order(random, &mut list);
+        return list.bytes();
+    }
+    good_or_bad_list(random, list)
 }
 
 // Spoils a list for so many of the refusals 2 to 6. The header comes last, so

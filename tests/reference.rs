@@ -1,7 +1,7 @@
 //! The independent implementation: files, refusals and calls, written to be
 //! read and not to be fast. Files are read bit by bit, membership is a map,
 //! a cell that stands twice is found with a set. The working graph and its
-//! steps are in graph.rs.
+//! steps are in graph.rs, the heaviest pairing and the way back in lifting.rs.
 //!
 //! In order: bits, files, refusals, calls. A new call adds its inputs to
 //! `Input`, its refusals to `holds` and its own function at the end.
@@ -9,10 +9,13 @@
 use std::collections::{BTreeMap, BTreeSet};
 
 use crate::graph::{self, Graph, Left, Named, CHAIN, LEAF};
+use crate::lifting::{self, Held};
 
 pub const WORK_WORDS: usize = 8192;
 pub const MOST_CELLS: u64 = 1024;
 pub const MOST_ENTRIES: u64 = 4096;
+/// The most cells with pairs left that are solved.
+pub const MOST_SOLVED: usize = 12;
 
 pub const LIST_KIND: u64 = 1;
 pub const SHORT_LIST_KIND: u64 = 2;
@@ -211,6 +214,16 @@ pub fn short_list_file(n: u64, carried: u64, pairs: &[(Pair, u64)]) -> Vec<u8> {
     pack.bytes()
 }
 
+/// The bytes of a pairing for a list of n cells, from its pairs in order.
+pub fn pairing_file(n: u64, pairs: &[Pair]) -> Vec<u8> {
+    let mut pack = Pack::default();
+    pack.fields([PAIRING_KIND, n, pairs.len() as u64, 0], HEADER_BITS);
+    for &(a, b) in pairs {
+        pack.fields([a, b, 0], PAIRING_BITS);
+    }
+    pack.bytes()
+}
+
 /// One entry of a pairing.
 struct PairingEntry {
     a: u64,
@@ -248,10 +261,11 @@ impl Pairing {
 /// `graph` is what the pairing is for, each pair with its points there.
 ///
 /// A call that writes files also has what comes of its list: the steps of its
-/// slip or of reduce, the place of the first step that is not allowed, the
-/// files it writes and the room that is lent for each. Where an earlier
-/// refusal holds, they are what comes of the entries and steps that can be
-/// read, up to the first step that is not allowed; no answer depends on them then.
+/// slip or of reduce, the place of the first step that is not allowed, what
+/// they leave, the pairing of that which is solved for or lifted, the files it
+/// writes and the room that is lent for each. Where an earlier refusal holds,
+/// they are what comes of the entries, steps and pairs that can be read, up to
+/// the first step that is not allowed; no answer depends on them then.
 pub struct Input {
     work: [usize; 2],
     list: List,
@@ -260,6 +274,9 @@ pub struct Input {
     graph: BTreeMap<Pair, u64>,
     pub steps: Vec<Named>,
     pub bad_step: Option<usize>,
+    pub left: Left,
+    solves: bool,
+    pub short_pairing: Held,
     files: Vec<Vec<u8>>,
     room: Vec<usize>,
 }
@@ -359,6 +376,11 @@ fn pairing_is_none_of(pairing: &Pairing, graph: &BTreeMap<Pair, u64>) -> bool {
     false
 }
 
+// Refusal 11: more than 12 cells have pairs left.
+fn too_many_are_left(left: &Left) -> bool {
+    left.graph.cells().count() > MOST_SOLVED
+}
+
 // Whether the refusal of this number holds, where the call has that input.
 fn holds(number: u32, input: &Input) -> bool {
     match number {
@@ -381,6 +403,7 @@ fn holds(number: u32, input: &Input) -> bool {
             .pairing
             .as_ref()
             .is_some_and(|pairing| pairing_is_none_of(pairing, &input.graph)),
+        11 => input.solves && too_many_are_left(&input.left),
         12 => (input.files.iter().zip(&input.room)).any(|(file, &room)| room < file.len()),
         _ => false,
     }
@@ -444,30 +467,85 @@ impl Input {
             graph: BTreeMap::new(),
             steps: Vec::new(),
             bad_step: None,
+            left: Left::new(Graph::new([])),
+            solves: false,
+            short_pairing: Held::default(),
             files: Vec::new(),
             room: Vec::new(),
         }
     }
 
-    /// What replay is given; it writes the short list.
-    pub fn replay(list: &[u8], slip: &[u8]) -> Input {
+    // What a call over a list and a slip is given, with what the slip leaves.
+    fn over_slip(list: &[u8], slip: &[u8]) -> Input {
         let mut input = Input::over(list);
         let slip = Slip::read(slip);
         input.steps = slip.steps.clone();
         input.slip = Some(slip);
-        let (left, bad_step) = graph::replay(input.working_graph(), &input.steps);
-        input.bad_step = bad_step;
-        input.files = vec![input.short_list(&left)];
+        (input.left, input.bad_step) = graph::replay(input.working_graph(), &input.steps);
+        input
+    }
+
+    // What a call over a list is given, with what the steps of reduce leave.
+    fn over_reduced(list: &[u8]) -> Input {
+        let mut input = Input::over(list);
+        (input.left, input.steps) = graph::reduce(input.working_graph());
+        input
+    }
+
+    /// What replay is given; it writes the short list.
+    pub fn replay(list: &[u8], slip: &[u8]) -> Input {
+        let mut input = Input::over_slip(list, slip);
+        input.files = vec![input.short_list()];
         input
     }
 
     /// What reduce is given; it writes the slip and the short list.
     pub fn reduce(list: &[u8]) -> Input {
-        let mut input = Input::over(list);
-        let (left, steps) = graph::reduce(input.working_graph());
-        input.files = vec![slip_file(input.n(), &steps), input.short_list(&left)];
-        input.steps = steps;
+        let mut input = Input::over_reduced(list);
+        input.files = vec![slip_file(input.n(), &input.steps), input.short_list()];
         input
+    }
+
+    /// What solve is given; it writes a pairing of what the slip leaves.
+    pub fn solve(list: &[u8], slip: &[u8]) -> Input {
+        let mut input = Input::over_slip(list, slip);
+        input.solve_left();
+        input.files = vec![pairing_file(input.n(), &input.short_pairing.pairs())];
+        input
+    }
+
+    /// What lift is given; it writes a pairing of the list.
+    pub fn lift(list: &[u8], slip: &[u8], pairing: &[u8]) -> Input {
+        let mut input = Input::over_slip(list, slip);
+        let pairing = Pairing::read(pairing);
+        input.graph = input.left.graph.pairs().into_iter().collect();
+        input.short_pairing = pairing_of(&pairing, &input.graph);
+        input.pairing = Some(pairing);
+        input.files = vec![input.lifted()];
+        input
+    }
+
+    /// What pair is given; it reduces, solves and lifts, and writes a pairing of the list.
+    pub fn pair(list: &[u8]) -> Input {
+        let mut input = Input::over_reduced(list);
+        input.solve_left();
+        input.files = vec![input.lifted()];
+        input
+    }
+
+    // Solves what is left; with too many cells left the pairing stays empty,
+    // which is the shortest that any could be.
+    fn solve_left(&mut self) {
+        self.solves = true;
+        if !too_many_are_left(&self.left) {
+            self.short_pairing = lifting::solve(&self.left.graph);
+        }
+    }
+
+    // The pairing of the list that the way back makes of that of what is left.
+    fn lifted(&self) -> Vec<u8> {
+        let lifted = lifting::lift(&self.left.taken, self.short_pairing.clone());
+        pairing_file(self.n(), &lifted.pairs())
     }
 
     /// The list's working graph.
@@ -476,8 +554,34 @@ impl Input {
     }
 
     /// Whether the call is given a slip.
-    pub fn is_replay(&self) -> bool {
+    pub fn has_slip(&self) -> bool {
         self.slip.is_some()
+    }
+
+    /// Whether the call solves what is left.
+    pub fn solves(&self) -> bool {
+        self.solves
+    }
+
+    /// Whether the call is given a pairing.
+    pub fn has_pairing(&self) -> bool {
+        self.pairing.is_some()
+    }
+
+    /// Whether the call lifts a pairing: lift, and pair, which solves without a slip.
+    pub fn lifts(&self) -> bool {
+        self.has_pairing() || (self.solves && !self.has_slip())
+    }
+
+    /// The points of each pair that is an entry of the list, zero points too.
+    pub fn entries(&self) -> BTreeMap<Pair, u64> {
+        self.list.points()
+    }
+
+    /// The cells of each pair that the call is given to lift, good or bad.
+    pub fn given_pairs(&self) -> Vec<Pair> {
+        let entries = self.pairing.iter().flat_map(|pairing| &pairing.entries);
+        entries.map(|entry| (entry.a, entry.b)).collect()
     }
 
     /// The list's n, zero if it has no header.
@@ -486,8 +590,8 @@ impl Input {
     }
 
     // The short list of what is left.
-    fn short_list(&self, left: &Left) -> Vec<u8> {
-        short_list_file(self.n(), left.carried, &left.graph.pairs())
+    fn short_list(&self) -> Vec<u8> {
+        short_list_file(self.n(), self.left.carried, &self.left.graph.pairs())
     }
 
     /// The length of each file that the call writes.
@@ -515,4 +619,19 @@ impl Input {
             .filter(|&number| holds(number, self))
             .collect()
     }
+}
+
+// The pairs of a file that make up a pairing of a graph: all of them, if the
+// file is one; else those in order that are in the graph and have no cell of
+// the ones before.
+fn pairing_of(pairing: &Pairing, graph: &BTreeMap<Pair, u64>) -> Held {
+    let mut cells = BTreeSet::new();
+    let mut pairs = Vec::new();
+    for &PairingEntry { a, b, .. } in &pairing.entries {
+        if graph.contains_key(&(a, b)) && !cells.contains(&a) && !cells.contains(&b) {
+            cells.extend([a, b]);
+            pairs.push((a, b));
+        }
+    }
+    Held::new(pairs)
 }

@@ -31,7 +31,8 @@ pub struct Replay;
 impl Call for Replay {
     const NAME: &'static str = "replay";
     const REFUSALS: &'static [u32] = &[1, 2, 3, 4, 5, 6, 7, 8, 12];
-    const CASES: &'static [&'static str] = &cases::OF_REPLAY;
+    const CASES: &'static [&'static [&'static str]] =
+        &[&cases::OF_SLIP, &cases::OF_MANY_LEFT, &cases::OF_ONE_FILE];
 
     fn rows() -> Vec<Row> {
         rows::replay_rows()
@@ -39,7 +40,8 @@ impl Call for Replay {
 
     fn files(random: &mut Random) -> (&'static str, Vec<Vec<u8>>) {
         let (family, list) = shapes::valid_list(random);
-        let slip = slips::good_or_bad_slip(random, &list);
+        let steps = slips::allowed_slip(random, slips::graph_of(&list));
+        let slip = slips::good_or_bad_slip(random, &list, steps);
         (family, vec![inputs::seldom_bad_list(random, list), slip])
     }
 

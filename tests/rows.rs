@@ -20,8 +20,8 @@ pub struct Row {
 pub const PLENTY: usize = 40_000;
 
 impl Row {
-    // A row with work buffers that are long enough.
-    fn new(name: &str, files: Vec<Vec<u8>>, outputs: usize, answer: Answer) -> Row {
+    /// A row with work buffers that are long enough.
+    pub fn new(name: &str, files: Vec<Vec<u8>>, outputs: usize, answer: Answer) -> Row {
         let room = match &answer {
             Ok(written) => written.iter().map(Vec::len).collect(),
             Err(_) => vec![PLENTY; outputs],
@@ -38,8 +38,8 @@ impl Row {
 
 // Notation
 
-// Pairs with points, written a-b:points and separated by commas.
-fn pairs(text: &str) -> Vec<(Pair, u64)> {
+/// Pairs with points, written a-b:points and separated by commas.
+pub fn pairs(text: &str) -> Vec<(Pair, u64)> {
     let number = |word: &str| word.trim().parse::<u64>().expect("a number");
     let pair = |word: &str| {
         let (cells, points) = word.split_once(':').expect("points");
@@ -52,8 +52,8 @@ fn pairs(text: &str) -> Vec<(Pair, u64)> {
         .collect()
 }
 
-// The list of these pairs.
-fn list(n: u64, text: &str) -> Vec<u8> {
+/// The list of these pairs.
+pub fn list(n: u64, text: &str) -> Vec<u8> {
     let entries = pairs(text).into_iter().map(|((a, b), p)| [a, b, p]);
     Form::list(n, entries.collect()).bytes()
 }
@@ -76,8 +76,8 @@ fn steps(text: &str) -> Vec<Named> {
         .collect()
 }
 
-// The slip of these steps.
-fn slip(n: u64, text: &str) -> Vec<u8> {
+/// The slip of these steps.
+pub fn slip(n: u64, text: &str) -> Vec<u8> {
     reference::slip_file(n, &steps(text))
 }
 
@@ -86,8 +86,8 @@ fn short(n: u64, carried: u64, text: &str) -> Vec<u8> {
     reference::short_list_file(n, carried, &pairs(text))
 }
 
-// All pairs of so many cells, each of one point.
-fn all_pairs(cells: u64) -> String {
+/// All pairs of so many cells, each of one point.
+pub fn all_pairs(cells: u64) -> String {
     let pairs = (0..cells).flat_map(|a| (a + 1..cells).map(move |b| format!("{a}-{b}:1")));
     pairs.collect::<Vec<_>>().join(",")
 }
@@ -95,15 +95,15 @@ fn all_pairs(cells: u64) -> String {
 // Files in bytes, so that the layout is fixed
 
 /// The first list, 0-1:10, 1-2:1, 2-3:10.
-const FIRST_LIST: [u8; 19] = [
+pub const FIRST_LIST: [u8; 19] = [
     0x10, 0x08, 0x00, 0x30, 0x00, 0x00, 0x10, 0x00, 0x0A, 0x00, 0x40, 0x20, 0x00, 0x01, 0x00, 0x80,
     0x30, 0x00, 0x0A,
 ];
 /// Leaf 0, leaf 2; and the short list after them, empty, carried 20.
-const TWO_LEAVES: [u8; 8] = [0x30, 0x08, 0x00, 0x20, 0x04, 0x00, 0x04, 0x02];
+pub const TWO_LEAVES: [u8; 8] = [0x30, 0x08, 0x00, 0x20, 0x04, 0x00, 0x04, 0x02];
 const AFTER_TWO_LEAVES: [u8; 12] = [0x20, 0x08, 0, 0, 0, 0, 0, 0, 0, 0, 0, 0x14];
 /// Chain 1; and the short list after it, 0-1:9, 0-3:19, 1-3:9, carried 1.
-const CHAIN_ONE: [u8; 6] = [0x30, 0x08, 0x00, 0x10, 0x0C, 0x01];
+pub const CHAIN_ONE: [u8; 6] = [0x30, 0x08, 0x00, 0x10, 0x0C, 0x01];
 const AFTER_CHAIN_ONE: [u8; 36] = [
     0x20, 0x08, 0x00, 0x30, 0, 0, 0, 0, 0, 0, 0, 0x01, // header and carried points
     0x00, 0x00, 0x10, 0, 0, 0, 0, 0x09, // 0-1:9
@@ -111,9 +111,9 @@ const AFTER_CHAIN_ONE: [u8; 36] = [
     0x00, 0x40, 0x30, 0, 0, 0, 0, 0x09, // 1-3:9
 ];
 /// Ring 1; 0-1023:7 of 1,024 cells, leaf 0, and the short list after it.
-const RING_ONE: [u8; 6] = [0x30, 0x06, 0x00, 0x10, 0x08, 0x01];
-const WIDE_LIST: [u8; 9] = [0x18, 0x00, 0x00, 0x10, 0x00, 0x3F, 0xF0, 0x00, 0x07];
-const WIDE_LEAF: [u8; 6] = [0x38, 0x00, 0x00, 0x10, 0x07, 0xFF];
+pub const RING_ONE: [u8; 6] = [0x30, 0x06, 0x00, 0x10, 0x08, 0x01];
+pub const WIDE_LIST: [u8; 9] = [0x18, 0x00, 0x00, 0x10, 0x00, 0x3F, 0xF0, 0x00, 0x07];
+pub const WIDE_LEAF: [u8; 6] = [0x38, 0x00, 0x00, 0x10, 0x07, 0xFF];
 const AFTER_WIDE_LEAF: [u8; 12] = [0x28, 0, 0, 0, 0, 0, 0, 0, 0, 0, 0, 0x07];
 /// The short list of 1,024 cells, empty, carried 536,870,400.
 const AFTER_COUPLES: [u8; 12] = [0x28, 0, 0, 0, 0, 0, 0, 0, 0x1F, 0xFF, 0xFE, 0];
@@ -172,20 +172,20 @@ fn reduce_rows_of_lists() -> Vec<Row> {
     ]
 }
 
-// The pairs of 1,024 cells in order, so many of them, each of one point.
-fn first_pairs(count: usize) -> Vec<Entry> {
+/// The pairs of 1,024 cells in order, so many of them, each of one point.
+pub fn first_pairs(count: usize) -> Vec<Entry> {
     let pairs = (0..1024).flat_map(|a| (a + 1..1024).map(move |b| [a, b, 1]));
     pairs.take(count).collect()
 }
 
-// A path of 1,024 cells with the points 1, 2, 3 and so on.
-fn rising_path() -> Vec<u8> {
+/// A path of 1,024 cells with the points 1, 2, 3 and so on.
+pub fn rising_path() -> Vec<u8> {
     let entries = (1..1024).map(|cell| [cell - 1, cell, cell]);
     Form::list(1024, entries.collect()).bytes()
 }
 
-// Leaf 0, leaf 1 and so on, as many as a slip of 1,024 cells can have.
-fn leaves_of_path() -> Vec<u8> {
+/// Leaf 0, leaf 1 and so on, as many as a slip of 1,024 cells can have.
+pub fn leaves_of_path() -> Vec<u8> {
     let leaves = (0..1023).map(|cell| Named::new(LEAF, cell));
     reference::slip_file(1024, &leaves.collect::<Vec<_>>())
 }
@@ -312,8 +312,8 @@ fn not_replayed(n: u64, text: &str, taken: &str, number: u32) -> Row {
     Row::new(&name, files, 1, Err(number))
 }
 
-const FIRST: &str = "0-1:10, 1-2:1, 2-3:10";
-const TRIANGLE: &str = "0-1:5, 0-2:4, 1-2:3";
+pub const FIRST: &str = "0-1:10, 1-2:1, 2-3:10";
+pub const TRIANGLE: &str = "0-1:5, 0-2:4, 1-2:3";
 
 // Slips of leaves and rings, in any order, that stop early or do not.
 fn replay_rows_of_slips() -> Vec<Row> {
@@ -413,8 +413,8 @@ fn replay_rows_of_refusals() -> Vec<Row> {
 
 // Buffers
 
-// An accepted call with work buffers and outputs of several lengths.
-fn rows_of_buffers(files: Vec<Vec<u8>>, written: Vec<Vec<u8>>) -> Vec<Row> {
+/// An accepted call with work buffers and outputs of several lengths.
+pub fn rows_of_buffers(files: Vec<Vec<u8>>, written: Vec<Vec<u8>>) -> Vec<Row> {
     let mut rows = Vec::new();
     for short_by in [0, 1] {
         for output in 0..written.len() {

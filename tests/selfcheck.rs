@@ -1,4 +1,4 @@
-//! The reference against the document, without the library: its worked rows,
+//! The reference of reduce and replay against the document, without the library: its worked rows,
 //! its steps against their words taken literally over all rings and paths of
 //! small lists, and the heaviest pairing before and after, by trying all.
 
@@ -13,14 +13,14 @@ use crate::shapes;
 use crate::slips;
 
 /// Pairs with points, all above zero.
-type Pairs = BTreeMap<Pair, u64>;
+pub type Pairs = BTreeMap<Pair, u64>;
 
 /// How many random lists of a few cells, and of any size, are tried.
 const SMALL_LISTS: u64 = 2500;
 const LISTS: u64 = 150;
-const MOST_SMALL_CELLS: u64 = 7;
+pub const MOST_SMALL_CELLS: u64 = 7;
 /// The cells of which every list is tried, and the number of points of a pair.
-const ALL_LISTS: [(u64, u64); 2] = [(4, 4), (5, 2)];
+pub const ALL_LISTS: [(u64, u64); 2] = [(4, 4), (5, 2)];
 /// A short list's points have 44 bits.
 const SHORT_POINTS: u64 = 1 << 44;
 
@@ -47,8 +47,8 @@ pub fn run(seed: u64) {
     );
 }
 
-// Ends with what is wrong, unless it is right.
-fn expect(right: bool, wrong: impl FnOnce() -> String) {
+/// Ends with what is wrong, unless it is right.
+pub fn expect(right: bool, wrong: impl FnOnce() -> String) {
     if !right {
         println!("FAULT of the reference: {}", wrong());
         println!("FAIL");
@@ -58,8 +58,8 @@ fn expect(right: bool, wrong: impl FnOnce() -> String) {
 
 // Worked rows
 
-// Checks that the reference answers what the rows say; how many there are.
-fn check_rows(rows: Vec<Row>, input: impl Fn(&[Vec<u8>]) -> Input) -> usize {
+/// Checks that the reference answers what the rows say; how many there are.
+pub fn check_rows(rows: Vec<Row>, input: impl Fn(&[Vec<u8>]) -> Input) -> usize {
     for row in &rows {
         let mut input = input(&row.files);
         input.lend(row.work, &row.room);
@@ -73,13 +73,13 @@ fn check_rows(rows: Vec<Row>, input: impl Fn(&[Vec<u8>]) -> Input) -> usize {
 
 // The words taken literally
 
-// The pairs of a graph.
-fn pairs_of(graph: &Graph) -> Pairs {
+/// The pairs of a graph.
+pub fn pairs_of(graph: &Graph) -> Pairs {
     graph.pairs().into_iter().collect()
 }
 
-// H: the points of a heaviest pairing, over all pairings.
-fn heaviest(pairs: &Pairs) -> u64 {
+/// H: the points of a heaviest pairing, over all pairings.
+pub fn heaviest(pairs: &Pairs) -> u64 {
     let Some((&pair, &points)) = pairs.first_key_value() else {
         return 0;
     };
@@ -96,8 +96,8 @@ fn less(pairs: &Pairs, cell: u64) -> Pairs {
     left
 }
 
-// The partners of a cell.
-fn partners(pairs: &Pairs, cell: u64) -> Vec<u64> {
+/// The partners of a cell.
+pub fn partners(pairs: &Pairs, cell: u64) -> Vec<u64> {
     let partner = |&(a, b): &Pair| match cell {
         _ if a == cell => Some(b),
         _ if b == cell => Some(a),
@@ -106,13 +106,13 @@ fn partners(pairs: &Pairs, cell: u64) -> Vec<u64> {
     pairs.keys().filter_map(partner).collect()
 }
 
-// The number of pairs of a cell.
-fn degree(pairs: &Pairs, cell: u64) -> usize {
+/// The number of pairs of a cell.
+pub fn degree(pairs: &Pairs, cell: u64) -> usize {
     partners(pairs, cell).len()
 }
 
-// The cells that have pairs.
-fn cells_of(pairs: &Pairs) -> BTreeSet<u64> {
+/// The cells that have pairs.
+pub fn cells_of(pairs: &Pairs) -> BTreeSet<u64> {
     pairs.keys().flat_map(|&(a, b)| [a, b]).collect()
 }
 
@@ -133,8 +133,8 @@ fn set(pairs: &mut Pairs, one: u64, other: u64, points: u64) {
     pairs.retain(|_, points| *points > 0);
 }
 
-// All paths of at least two cells, each in both directions.
-fn paths(pairs: &Pairs) -> Vec<Vec<u64>> {
+/// All paths of at least two cells, each in both directions.
+pub fn paths(pairs: &Pairs) -> Vec<Vec<u64>> {
     let mut found: Vec<Vec<u64>> = cells_of(pairs).iter().map(|&cell| vec![cell]).collect();
     let mut place = 0;
     while place < found.len() {
@@ -296,18 +296,23 @@ fn check_all_slips(graph: &Graph) -> u64 {
 
 // Checks all lists of a few cells and few points, with all their slips.
 fn check_all_lists(cells: u64, points: u64) -> u64 {
-    let all = (0..cells).flat_map(|a| (a + 1..cells).map(move |b| (a, b)));
+    all_graphs(cells, points)
+        .map(|graph| check_all_slips(&graph))
+        .sum()
+}
+
+/// The working graphs of all lists of so many cells, with so many points to choose from.
+pub fn all_graphs(cells: u64, points: u64) -> impl Iterator<Item = Graph> {
+    let all = (0..cells).flat_map(move |a| (a + 1..cells).map(move |b| (a, b)));
     let all: Vec<Pair> = all.collect();
-    let mut graphs = 0;
-    for mut number in 0..points.pow(all.len() as u32) {
+    (0..points.pow(all.len() as u32)).map(move |mut number| {
         let entries = all.iter().map(|&pair| {
             let digit = number % points;
             number /= points;
             (pair, digit)
         });
-        graphs += check_all_slips(&Graph::new(entries));
-    }
-    graphs
+        Graph::new(entries)
+    })
 }
 
 // Small lists, from bytes to bytes
@@ -325,8 +330,8 @@ fn check_small_list(random: &mut Random, list: &Form) {
     }
 }
 
-// The files that a call writes which is not refused.
-fn written(input: &mut Input, outputs: usize) -> Vec<Vec<u8>> {
+/// The files that a call writes which is not refused.
+pub fn written(input: &mut Input, outputs: usize) -> Vec<Vec<u8>> {
     input.lend([WORK_WORDS; 2], &vec![PLENTY; outputs]);
     let answer = input.answer();
     expect(answer.is_ok(), || format!("refused: {answer:?}"));
@@ -385,22 +390,22 @@ fn check_list(list: &Form) {
 
 // Files, read by shifts
 
-// The number in bytes, the most significant first.
-fn number(bytes: &[u8]) -> u64 {
+/// The number in bytes, the most significant first.
+pub fn number(bytes: &[u8]) -> u64 {
     let add = |number, &byte| number << 8 | u64::from(byte);
     bytes.iter().fold(0, add)
 }
 
-// Checks a header: kind (4), cells n (11), count m (13), four zero bits.
-fn check_header(bytes: &[u8], kind: u64, list: &Form, m: usize) {
+/// Checks a header: kind (4), cells n (11), count m (13), four zero bits.
+pub fn check_header(bytes: &[u8], kind: u64, list: &Form, m: usize) {
     let header = kind << 28 | list.n << 17 | (m as u64) << 4;
     expect(number(&bytes[..4]) == header, || {
         format!("a header is not of kind {kind}, n = {}, m = {m}", list.n)
     });
 }
 
-// The steps of a slip's bytes: rule (6), cell (10).
-fn slip_of(list: &Form, bytes: &[u8]) -> Vec<Named> {
+/// The steps of a slip's bytes: rule (6), cell (10).
+pub fn slip_of(list: &Form, bytes: &[u8]) -> Vec<Named> {
     let step = |two| Named::new(number(two) >> 10, number(two) & 0x3FF);
     let steps: Vec<Named> = bytes[4..].chunks(2).map(step).collect();
     check_header(bytes, 3, list, steps.len());

@@ -1,4 +1,4 @@
-//! Lists for reduce and replay, by the family of their shape: those in which
+//! Lists for the calls that write files, by the family of their shape: those in which
 //! leaves, rings and chains come up in every way, and those without any step.
 //!
 //! A shape is drawn as a `Draft` whose cells are numbered as they come; the
@@ -6,11 +6,14 @@
 
 use std::collections::BTreeSet;
 
+use crate::graph::CHAIN;
 use crate::inputs::{self, Entry, Form, Random, LARGEST_POINTS};
+use crate::lifting::Taken;
 use crate::reference::{Pair, MOST_CELLS, MOST_ENTRIES};
+use crate::slips;
 
 /// The families, in the order of `draw`.
-pub const FAMILIES: [&str; 19] = [
+pub const FAMILIES: [&str; 20] = [
     "no pairs",
     "path",
     "tree",
@@ -30,11 +33,15 @@ pub const FAMILIES: [&str; 19] = [
     "4,096 entries",
     "long ring or chain",
     "as for weigh",
+    "core of about 12 cells",
 ];
 const GROUPS: usize = 13;
 const FULL: usize = 16;
 const LONG: usize = 17;
 const AS_FOR_WEIGH: usize = 18;
+const ABOUT_TWELVE: usize = 19;
+/// Families that often leave pairs which no step takes, or have long rows.
+const LEAVING: [usize; 6] = [11, 12, 15, LONG, ABOUT_TWELVE, ABOUT_TWELVE];
 /// A family of large lists alone is taken once in so many times that it comes up.
 const LARGE_ONCE_IN: u64 = 2;
 
@@ -338,11 +345,55 @@ fn draw_any(random: &mut Random, draft: &mut Draft, size: u64, count: u64) {
 /// A valid list of any family, and the family's name.
 pub fn valid_list(random: &mut Random) -> (&'static str, Form) {
     let family = random.place(FAMILIES.len());
+    list_of_family(random, family)
+}
+
+/// A valid list for solve, lift and pair: more often of a family that leaves
+/// pairs to solve, and more often of few points, so that many are equal.
+pub fn list_to_lift(random: &mut Random) -> (&'static str, Form) {
+    let family = if random.once_in(2) {
+        LEAVING[random.place(LEAVING.len())]
+    } else {
+        random.place(FAMILIES.len())
+    };
+    let (name, mut list) = list_of_family(random, family);
+    if random.once_in(3) {
+        let least = random.one_of(&[0, 1, 1, 1, 4]);
+        let most = least + random.one_of(&[1, 1, 2, 3]);
+        let entries = list.entries.iter_mut().filter(|entry| entry[2] > 0);
+        entries.for_each(|entry| entry[2] = random.between(least, most));
+    }
+    if random.once_in(3) {
+        put_direct_pair(random, &mut list);
+    }
+    (name, list)
+}
+
+// Gives the ends of a chain a direct pair: of zero points, or about as heavy as the chain.
+fn put_direct_pair(random: &mut Random, list: &mut Form) {
+    let graph = slips::graph_of(list);
+    let mut chains = graph.steps();
+    chains.retain(|step| step.named().rule == CHAIN);
+    if chains.is_empty() || list.entries.len() as u64 == MOST_ENTRIES {
+        return;
+    }
+    let taken = Taken::new(&graph, chains.swap_remove(random.place(chains.len())));
+    let ([u, v], chain) = (taken.ends(), taken.points_of_chain());
+    let points = random.one_of(&[0, 0, 0, chain.saturating_sub(1), chain, chain + 1]);
+    list.entries.retain(|&[a, b, _]| (a, b) != (u, v));
+    list.entries.push([u, v, points.min(LARGEST_POINTS)]);
+    list.entries.sort();
+    list.m = list.entries.len() as u64;
+}
+
+// A valid list of a family; of one that is taken seldom, often another.
+fn list_of_family(random: &mut Random, family: usize) -> (&'static str, Form) {
     let list = match family {
         AS_FOR_WEIGH => inputs::valid_list(random),
         FULL | LONG if !random.once_in(LARGE_ONCE_IN) => return valid_list(random),
         FULL => full_list(random),
         LONG => long_list(random),
+        ABOUT_TWELVE => list_of_about_twelve(random),
         _ => {
             let size = size(random);
             let draft = draft(random, family, size);
@@ -371,15 +422,58 @@ fn size(random: &mut Random) -> u64 {
     }
 }
 
-// A list of 4,096 entries.
+// A list of 4,096 entries: any, or a shape among entries of zero points.
 fn full_list(random: &mut Random) -> Form {
     let mut draft = Draft {
         cells: random.between(MOST_CORE_CELLS + 1, MOST_CELLS),
         ..Draft::default()
     };
+    if random.once_in(2) {
+        return shape_among_zeros(random, draft.cells);
+    }
     while draft.pairs.len() < MOST_ENTRIES as usize {
         let (one, other) = (draft.any(random), draft.any(random));
         draft.pair(one, other);
+    }
+    list_of(random, &draft)
+}
+
+// A list of 4,096 entries of so many cells, of which only those of a shape are above zero points.
+fn shape_among_zeros(random: &mut Random, cells: u64) -> Form {
+    let (family, size) = (random.place(GROUPS), size(random));
+    let mut draft = draft(random, family, size);
+    draft.cells = draft.cells.max(cells);
+    let mut entries = with_points(random, &draft.pairs.iter().copied().collect::<Vec<_>>());
+    while draft.pairs.len() < MOST_ENTRIES as usize {
+        let (one, other) = (draft.any(random), draft.any(random));
+        let (a, b) = (one.min(other), one.max(other));
+        if a != b && draft.pairs.insert((a, b)) {
+            entries.push([a, b, 0]);
+        }
+    }
+    entries.truncate(MOST_ENTRIES as usize);
+    numbered(random, draft.cells, entries)
+}
+
+// A core of 11 to 18 cells, alone or with leaves and rings at some of them.
+fn list_of_about_twelve(random: &mut Random) -> Form {
+    let mut draft = Draft::default();
+    let cells = random.one_of(&[11, 12, 12, 12, 13, 13, 14, 18]);
+    let (first, last) = draw_core(random, &mut draft, cells);
+    let hung = match random.below(6) {
+        0..=2 => 0,
+        3 => random.between(1, 4),
+        4 => random.between(1, 40),
+        _ => random.between(100, 300),
+    };
+    let ring_once_in = random.one_of(&[2, 8, 1000]);
+    for _ in 0..hung {
+        let at = random.between(first, last);
+        if random.once_in(ring_once_in) {
+            draft.chain(at, 2, at);
+        } else {
+            draft.tail(at, 1);
+        }
     }
     list_of(random, &draft)
 }
@@ -414,8 +508,13 @@ fn list_of(random: &mut Random, draft: &Draft) -> Form {
     while pairs.len() > MOST_ENTRIES as usize {
         pairs.remove(random.place(pairs.len()));
     }
-    let mut entries = with_points(random, &pairs);
-    let numbers = numbers(random, draft.cells);
+    let entries = with_points(random, &pairs);
+    numbered(random, draft.cells, entries)
+}
+
+// The list of entries of so many cells, which get new numbers.
+fn numbered(random: &mut Random, cells: u64, mut entries: Vec<Entry>) -> Form {
+    let numbers = numbers(random, cells);
     for [a, b, _] in &mut entries {
         let (one, other) = (numbers[*a as usize], numbers[*b as usize]);
         (*a, *b) = (one.min(other), one.max(other));

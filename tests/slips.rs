@@ -1,4 +1,4 @@
-//! Slips for replay: steps that are allowed where they stand, drawn at random
+//! Slips for replay, solve and lift: steps that are allowed where they stand, drawn at random
 //! from all that are, and faults put into them on purpose.
 
 use crate::graph::{self, Graph, Named, Step, CHAIN, LEAF, RING};
@@ -30,6 +30,14 @@ pub fn allowed_slip(random: &mut Random, graph: Graph) -> Vec<Named> {
     if random.once_in(4) {
         slip.truncate(random.place(slip.len() + 1));
     }
+    slip
+}
+
+/// A few steps that are allowed where they stand, chains before the others, so
+/// that much is left that steps made.
+pub fn few_chains(random: &mut Random, graph: Graph) -> Vec<Named> {
+    let mut slip = drawn_slip(random, graph, Some(CHAIN));
+    slip.truncate(random.place(5));
     slip
 }
 
@@ -159,10 +167,9 @@ pub fn form(n: u64, steps: &[Named]) -> Form {
     Form::slip(n, entries.collect())
 }
 
-/// The bytes of a slip of a valid list: with steps that are allowed, with one
-/// that is not, of wrong form, or no slip of this list at all.
-pub fn good_or_bad_slip(random: &mut Random, list: &Form) -> Vec<u8> {
-    let mut steps = allowed_slip(random, graph_of(list));
+/// The bytes of a slip of a valid list: with these steps, which are allowed, with
+/// one that is not, of wrong form, or no slip of this list at all.
+pub fn good_or_bad_slip(random: &mut Random, list: &Form, mut steps: Vec<Named>) -> Vec<u8> {
     let fault = random.below(100);
     if (54..=82).contains(&fault) {
         spoil_steps(random, &mut steps, list);

@@ -1,5 +1,6 @@
-//! The comparison of the calls that write files, replay and reduce: worked
-//! rows, random calls, and the check of one call against the reference.
+//! The comparison of the calls that write files, replay, reduce, solve, lift
+//! and pair: worked rows, random calls, and the check of one call against the
+//! reference.
 
 use std::ops::Range;
 use std::process::exit;
@@ -17,8 +18,8 @@ use crate::shapes::FAMILIES;
 pub trait Call {
     const NAME: &'static str;
     const REFUSALS: &'static [u32];
-    /// The cases that must be met, beside those of both calls.
-    const CASES: &'static [&'static str];
+    /// The cases that must be met, in groups, beside those of every call.
+    const CASES: &'static [&'static [&'static str]];
 
     /// The worked rows.
     fn rows() -> Vec<Row>;
@@ -93,7 +94,7 @@ pub struct Comparison<C: Call> {
 impl<C: Call> Comparison<C> {
     // Nothing met yet.
     fn new() -> Self {
-        let names = [&cases::OF_BOTH[..], C::CASES].concat();
+        let names = [&cases::OF_ALL[..], &C::CASES.concat()].concat();
         Comparison {
             counts: Counts::new(C::REFUSALS),
             families: Tally::new("calls by family of the list", &FAMILIES),

@@ -1,0 +1,279 @@
+//! The heaviest pairing of what is left, the best of a row, and the way back
+//! through the steps of a slip, in the document's words.
+//!
+//! In order: pairings, solve, the best of a row, the way back.
+
+use std::collections::BTreeMap;
+
+use crate::graph::{heaviest_of_path, Graph, Step};
+use crate::reference::Pair;
+
+// Pairings
+
+/// A pairing: for each cell that stands in it, its partner.
+#[derive(Clone, Debug, Default, PartialEq, Eq)]
+pub struct Held {
+    partners: BTreeMap<u64, u64>,
+}
+
+impl Held {
+    /// The pairing of these pairs, in which no cell stands twice.
+    pub fn new(pairs: impl IntoIterator<Item = Pair>) -> Held {
+        let mut held = Held::default();
+        held.add_all(pairs);
+        held
+    }
+
+    /// Whether a cell stands in a pair.
+    pub fn is_paired(&self, cell: u64) -> bool {
+        self.partners.contains_key(&cell)
+    }
+
+    /// Whether these two cells are a pair of it.
+    pub fn holds(&self, one: u64, other: u64) -> bool {
+        self.partners.get(&one) == Some(&other)
+    }
+
+    /// The pairs in order, the lower cell first.
+    pub fn pairs(&self) -> Vec<Pair> {
+        let both = self
+            .partners
+            .iter()
+            .map(|(&cell, &partner)| (cell, partner));
+        both.filter(|&(cell, partner)| cell < partner).collect()
+    }
+
+    // Adds a pair of two cells that stand in none.
+    fn add(&mut self, one: u64, other: u64) {
+        for (cell, partner) in [(one, other), (other, one)] {
+            let before = self.partners.insert(cell, partner);
+            assert!(before.is_none(), "cell {cell} stands twice");
+        }
+    }
+
+    // Adds pairs of cells that stand in none.
+    fn add_all(&mut self, pairs: impl IntoIterator<Item = Pair>) {
+        for (one, other) in pairs {
+            self.add(one, other);
+        }
+    }
+
+    // Takes a pair out; whether it was held.
+    fn remove(&mut self, one: u64, other: u64) -> bool {
+        let held = self.holds(one, other);
+        if held {
+            self.partners.remove(&one);
+            self.partners.remove(&other);
+        }
+        held
+    }
+}
+
+// Solve
+
+/// What may become of the lowest cell of a set: the pair it stands in, if any,
+/// the points of that pair, and the set of the cells that are left.
+struct Choice {
+    pair: Option<Pair>,
+    points: u64,
+    rest: usize,
+}
+
+/// A heaviest pairing of a graph of few cells. Of equals, look at the lowest
+/// cell whose partner differs: unpaired comes first, then the lower partner.
+pub fn solve(graph: &Graph) -> Held {
+    let cells: Vec<u64> = graph.cells().collect();
+    let heaviest = heaviest_of_sets(graph, &cells);
+    let mut held = Held::default();
+    let mut set = heaviest.len() - 1;
+    while set != 0 {
+        let choices = choices(graph, &cells, set);
+        let is_best = |choice: &&Choice| choice.points + heaviest[choice.rest] == heaviest[set];
+        let first = choices.iter().find(is_best).expect("a best choice");
+        held.add_all(first.pair);
+        set = first.rest;
+    }
+    held
+}
+
+// H of every set of cells, from that of smaller sets. A set is a number: its
+// bit of a place says whether the cell of that place is in it.
+fn heaviest_of_sets(graph: &Graph, cells: &[u64]) -> Vec<u64> {
+    let mut heaviest = vec![0];
+    for set in 1..1 << cells.len() {
+        let choices = choices(graph, cells, set);
+        let points = choices
+            .iter()
+            .map(|choice| choice.points + heaviest[choice.rest]);
+        heaviest.push(points.max().unwrap_or(0));
+    }
+    heaviest
+}
+
+// What may become of a set's lowest cell, in the order of the tie: it stays
+// unpaired, or has one of its partners in the set, the lowest first.
+fn choices(graph: &Graph, cells: &[u64], set: usize) -> Vec<Choice> {
+    let lowest = set.trailing_zeros() as usize;
+    let others = set & !(1 << lowest);
+    let mut choices = vec![Choice {
+        pair: None,
+        points: 0,
+        rest: others,
+    }];
+    for place in (0..cells.len()).filter(|place| others >> place & 1 == 1) {
+        let points = graph.points(cells[lowest], cells[place]);
+        if points > 0 {
+            choices.push(Choice {
+                pair: Some((cells[lowest], cells[place])),
+                points,
+                rest: others & !(1 << place),
+            });
+        }
+    }
+    choices
+}
+
+// The best of a row
+
+/// The pairs of a row in reading order, with their points.
+pub type Row = [(Pair, u64)];
+
+// H of a row that is a path.
+fn heaviest(row: &Row) -> u64 {
+    let points: Vec<u64> = row.iter().map(|&(_, points)| points).collect();
+    heaviest_of_path(&points)
+}
+
+// A row from a place on, nothing of it beyond its end.
+fn from(row: &Row, place: usize) -> &Row {
+    row.get(place..).unwrap_or(&[])
+}
+
+/// The best of a path: a pair is taken only where that gives more than leaving it out.
+pub fn best_of_path(row: &Row) -> Vec<Pair> {
+    let Some(&(pair, points)) = row.first() else {
+        return Vec::new();
+    };
+    let (without, beside) = (from(row, 1), from(row, 2));
+    if points + heaviest(beside) > heaviest(without) {
+        [vec![pair], best_of_path(beside)].concat()
+    } else {
+        best_of_path(without)
+    }
+}
+
+/// The best of a ring: its first pair is taken only where that gives more than
+/// leaving it out. What is left is a path in either case.
+pub fn best_of_ring(row: &Row) -> Vec<Pair> {
+    let (pair, points) = row[0];
+    let (without, beside) = (&row[1..], &row[2..row.len() - 1]);
+    if points + heaviest(beside) > heaviest(without) {
+        [vec![pair], best_of_path(beside)].concat()
+    } else {
+        best_of_path(without)
+    }
+}
+
+// The way back
+
+/// A step that was taken. Its row is that of a ring or chain before the step;
+/// `present` are the points that a chain's pair u, v had then, zero if absent.
+pub struct Taken {
+    pub step: Step,
+    pub row: Vec<(Pair, u64)>,
+    pub present: u64,
+}
+
+impl Taken {
+    /// Looks at the graph before the step is taken.
+    pub fn new(graph: &Graph, step: Step) -> Taken {
+        let (row, present) = match &step {
+            Step::Leaf { .. } => (Vec::new(), 0),
+            Step::Ring { cells } => (graph.row_of(&[&cells[..], &cells[..1]].concat()), 0),
+            Step::Chain { cells } => {
+                let [u, v] = ends(cells);
+                (graph.row_of(cells), graph.points(u, v))
+            }
+        };
+        Taken { step, row, present }
+    }
+
+    /// The ends u and v of a chain; of a leaf or ring both are u.
+    pub fn ends(&self) -> [u64; 2] {
+        match &self.step {
+            Step::Leaf { u, .. } => [*u; 2],
+            Step::Ring { cells } => [cells[0]; 2],
+            Step::Chain { cells } => ends(cells),
+        }
+    }
+
+    /// Makes of a pairing of the graph after the step one of the graph before it.
+    pub fn undo(&self, held: &mut Held) {
+        let z = self.step.named().cell;
+        match &self.step {
+            Step::Leaf { v, u } => undo_leaf(held, *v, *u),
+            Step::Ring { cells } => self.undo_ring(held, cells[0], z),
+            Step::Chain { cells } => self.undo_chain(held, ends(cells), z),
+        }
+    }
+
+    // If the pair u, z is held, replace it by the best of C, else add the best of C less u.
+    fn undo_ring(&self, held: &mut Held, u: u64, z: u64) {
+        if held.remove(u, z) {
+            held.add_all(best_of_ring(&self.row));
+        } else {
+            held.add_all(best_of_path(&self.row[1..self.row.len() - 1]));
+        }
+    }
+
+    // With u, z held, replace it by the best of P less v; with v, z held, by the
+    // best of P less u. With u, v held and its present points greater than H(P)
+    // minus H(Q), keep it and add the best of Q; otherwise replace it by the best
+    // of P. With none of the three held, add the best of Q.
+    fn undo_chain(&self, held: &mut Held, [u, v]: [u64; 2], z: u64) {
+        let last = self.row.len() - 1;
+        let (p, q) = (&self.row[..], &self.row[1..last]);
+        let (p_less_v, p_less_u) = (&self.row[..last], &self.row[1..]);
+        if held.remove(u, z) {
+            held.add_all(best_of_path(p_less_v));
+        } else if held.remove(v, z) {
+            held.add_all(best_of_path(p_less_u));
+        } else if held.holds(u, v) && !self.direct_pair_is_heavier() {
+            held.remove(u, v);
+            held.add_all(best_of_path(p));
+        } else {
+            held.add_all(best_of_path(q));
+        }
+    }
+
+    /// Whether the present points of a chain's u, v are greater than H(P) minus H(Q).
+    pub fn direct_pair_is_heavier(&self) -> bool {
+        self.present > self.points_of_chain()
+    }
+
+    /// H(P) minus H(Q) of a chain.
+    pub fn points_of_chain(&self) -> u64 {
+        let last = self.row.len() - 1;
+        heaviest(&self.row) - heaviest(&self.row[1..last])
+    }
+}
+
+// The two ends of a chain, u and v.
+fn ends(cells: &[u64]) -> [u64; 2] {
+    [cells[0], cells[cells.len() - 1]]
+}
+
+// If u is unpaired, add the pair u, v.
+fn undo_leaf(held: &mut Held, v: u64, u: u64) {
+    if !held.is_paired(u) {
+        held.add(u, v);
+    }
+}
+
+/// The way back through all the steps, the last first.
+pub fn lift(taken: &[Taken], mut held: Held) -> Held {
+    for step in taken.iter().rev() {
+        step.undo(&mut held);
+    }
+    held
+}

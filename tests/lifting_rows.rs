@@ -1,0 +1,572 @@
+//! Worked rows of solve, lift and pair: calls with the answers that the
+//! document gives or that follow from its words by hand. Lists, slips and
+//! pairings are written as there.
+
+use crate::inputs::{Entry, Form};
+use crate::reference::{self, Pair};
+use crate::rows::{self, all_pairs, first_pairs, list, slip, Row, FIRST, FIRST_LIST, TRIANGLE};
+
+// Notation
+
+// Pairs, written a-b and separated by commas.
+fn cells(text: &str) -> Vec<Pair> {
+    let with_points = text.split(',').filter(|word| !word.trim().is_empty());
+    let with_points: Vec<String> = with_points.map(|word| format!("{word}:0")).collect();
+    let pairs = rows::pairs(&with_points.join(","));
+    pairs.into_iter().map(|(pair, _)| pair).collect()
+}
+
+// The pairing of these pairs.
+fn pairing(n: u64, text: &str) -> Vec<u8> {
+    reference::pairing_file(n, &cells(text))
+}
+
+// Each even cell with the next one, up to so many cells.
+fn couples(n: u64) -> Vec<u8> {
+    let pairs = (0..n / 2).map(|couple| (2 * couple, 2 * couple + 1));
+    reference::pairing_file(n, &pairs.collect::<Vec<_>>())
+}
+
+// 512 pairs that have no cell in common, of the largest points.
+fn list_of_couples() -> Vec<u8> {
+    let entries = (0..512).map(|couple| [2 * couple, 2 * couple + 1, 1_048_575]);
+    Form::list(1024, entries.collect()).bytes()
+}
+
+// All pairs of so many cells with so many points each.
+fn all_pairs_of(cells: u64, points: u64) -> Vec<Entry> {
+    let pairs = (0..cells).flat_map(|a| (a + 1..cells).map(move |b| [a, b, points]));
+    pairs.collect()
+}
+
+// Lists
+
+const SQUARE: &str = "0-1:5, 0-3:5, 1-2:5, 2-3:5";
+/// A chain from 0 over 1 and 2 to 3, and a direct pair that is heavier, equal, lighter.
+const HEAVIER: &str = "0-1:10, 0-3:25, 0-4:1, 1-2:1, 2-3:10, 3-5:1";
+const EQUAL: &str = "0-1:10, 0-3:19, 0-4:1, 1-2:1, 2-3:10, 3-5:1";
+const LIGHTER: &str = "0-1:10, 0-3:18, 0-4:1, 1-2:1, 2-3:10, 3-5:1";
+const ZERO_DIRECT: &str = "0-1:10, 0-3:0, 1-2:1, 2-3:10";
+const LARGEST: &str = "0-1:1048575, 1-2:1, 2-3:1048575";
+/// A ring of equal points, 4, 5, 6, 7, at a cell that has a lower partner elsewhere.
+const RING_AT_FOUR: &str = "0-4:1, 4-5:5, 4-7:5, 5-6:5, 6-7:5";
+/// A ring read 0, 3, 2, 5.
+const RING_TO_THREE: &str = "0-3:1, 0-5:1, 2-3:1, 2-5:1";
+/// A chain read 0, 5, 4, 3, 1.
+const CHAIN_FROM_FIVE: &str = "0-5:1, 1-3:1, 3-4:1, 4-5:1";
+/// Chains that come out with pairs of zero points.
+const ALL_ZERO: &str = "0-1:1, 1-2:10, 2-3:1";
+const ONE_ZERO: &str = "0-1:2, 1-2:3, 2-3:5";
+/// A chain read 2, 0, 1, 3.
+const LOW_INNER: &str = "0-1:1, 0-2:9, 1-3:9";
+const EQUAL_TRIANGLE: &str = "0-1:1, 0-2:1, 1-2:1";
+const TWO_RINGS: &str = "0-5:1, 0-6:1, 1-2:1, 1-3:1, 2-3:1, 5-6:1";
+const SINGLE_CELLS: &str = "0-2:1, 0-3:1, 0-4:1, 1-2:1, 1-3:1, 1-4:1";
+const CHAIN_OF_RINGS: &str = "0-1:10, 0-2:10, 1-3:10, 2-4:5, 2-5:4, 3-6:9, 3-7:9, 4-5:3, 6-7:1";
+
+/// The first list's pairing, 0-1, 2-3.
+const FIRST_PAIRING: [u8; 10] = [0x40, 0x08, 0x00, 0x20, 0x00, 0x00, 0x10, 0x00, 0x80, 0x30];
+/// Its pairing after chain 1, 0-3.
+const ZERO_THREE: [u8; 7] = [0x40, 0x08, 0x00, 0x10, 0x00, 0x00, 0x30];
+
+// Solve
+
+/// The rows of solve: the output is a pairing of what the slip leaves.
+pub fn solve_rows() -> Vec<Row> {
+    let mut rows = solve_rows_of_lists();
+    rows.extend(solve_rows_of_ties());
+    rows.extend(solve_rows_of_twelve());
+    rows.extend(solve_rows_of_refusals());
+    rows.extend(rows::rows_of_buffers(
+        vec![FIRST_LIST.to_vec(), rows::CHAIN_ONE.to_vec()],
+        vec![ZERO_THREE.to_vec()],
+    ));
+    rows
+}
+
+// Solving what a slip leaves of a list gives a pairing.
+fn solved(n: u64, text: &str, taken: &str, held: &str) -> Row {
+    let name = format!("{text}; {taken}");
+    let files = vec![list(n, text), slip(n, taken)];
+    Row::new(&name, files, 1, Ok(vec![pairing(n, held)]))
+}
+
+// Lists of a few cells that have one heaviest pairing.
+fn solve_rows_of_lists() -> Vec<Row> {
+    vec![
+        solved(4, FIRST, "", "0-1, 2-3"),
+        solved(4, FIRST, "chain 1", "0-3"),
+        solved(4, FIRST, "leaf 0", "2-3"),
+        solved(4, FIRST, "leaf 0, leaf 2", ""),
+        solved(4, FIRST, "chain 1, ring 1", "0-1"),
+        solved(3, "0-1:3, 1-2:8", "", "1-2"),
+        solved(3, "0-1:3, 1-2:8", "leaf 0", "1-2"),
+        solved(4, "0-1:3, 1-2:8, 2-3:3", "", "1-2"),
+        solved(3, TRIANGLE, "", "0-1"),
+        solved(3, TRIANGLE, "ring 1", "0-1"),
+        solved(4, LARGEST, "chain 1", "0-3"),
+        solved(6, HEAVIER, "chain 1", "0-3"),
+        solved(4, LOW_INNER, "chain 0", "2-3"),
+        solved(4, ONE_ZERO, "chain 1", "0-3"),
+        solved(4, ALL_ZERO, "chain 1", ""),
+        solved(0, "", "", ""),
+        solved(5, "", "", ""),
+        solved(2, "0-1:0", "", ""),
+        solved(1024, "0-1023:7", "", "0-1023"),
+    ]
+}
+
+// Lists of several heaviest pairings: unpaired first, then the lower partner.
+fn solve_rows_of_ties() -> Vec<Row> {
+    vec![
+        solved(3, EQUAL_TRIANGLE, "", "1-2"),
+        solved(3, "0-1:1, 1-2:1", "", "1-2"),
+        solved(3, "0-1:1, 0-2:1", "", "0-1"),
+        solved(4, "0-1:4, 1-2:8, 2-3:4", "", "1-2"),
+        // Not the tie of a row: that would leave 0-1 out.
+        solved(4, SQUARE, "", "0-1, 2-3"),
+        solved(4, &all_pairs(4), "", "0-1, 2-3"),
+        solved(5, SINGLE_CELLS, "", "0-2, 1-3"),
+        solved(7, TWO_RINGS, "", "2-3, 5-6"),
+        solved(6, CHAIN_FROM_FIVE, "", "1-3, 4-5"),
+        solved(6, CHAIN_FROM_FIVE, "chain 3", "1-3"),
+        solved(11, &all_pairs(11), "", "1-2, 3-4, 5-6, 7-8, 9-10"),
+    ]
+}
+
+// Twelve cells with pairs left are solved, thirteen are not.
+fn solve_rows_of_twelve() -> Vec<Row> {
+    let row = |name: &str, list: Vec<u8>, slip: Vec<u8>, answer| {
+        Row::new(name, vec![list, slip], 1, answer)
+    };
+    let twelve = || Ok(vec![couples(12)]);
+    let six_of = |n| reference::pairing_file(n, &cells("0-1, 2-3, 4-5, 6-7, 8-9, 10-11"));
+    let with_leaf = || {
+        let mut entries = all_pairs_of(12, 5);
+        entries.push([0, 12, 1]);
+        entries.sort();
+        Form::list(13, entries).bytes()
+    };
+    let zeros = Form::list(13, all_pairs_of(13, 0)).bytes();
+    let wide = Form::list(1024, all_pairs_of(12, 1)).bytes();
+    vec![
+        row("12 cells", list(12, &all_pairs(12)), slip(12, ""), twelve()),
+        row("13 cells", list(13, &all_pairs(13)), slip(13, ""), Err(11)),
+        row("12 of 1,024", wide, slip(1024, ""), Ok(vec![six_of(1024)])),
+        row("13 with a leaf", with_leaf(), slip(13, ""), Err(11)),
+        row(
+            "12 after a leaf",
+            with_leaf(),
+            slip(13, "leaf 12"),
+            Ok(vec![six_of(13)]),
+        ),
+        row(
+            "13 cells, zero points",
+            zeros,
+            slip(13, ""),
+            Ok(vec![pairing(13, "")]),
+        ),
+    ]
+}
+
+// Calls of solve that are refused.
+fn solve_rows_of_refusals() -> Vec<Row> {
+    let row = |name: &str, list: Vec<u8>, slip: Vec<u8>, number| {
+        Row::new(name, vec![list, slip], 1, Err(number))
+    };
+    let thirteen = || list(13, &all_pairs(13));
+    let mut eleven_without_room = row("11 before 12", thirteen(), slip(13, ""), 11);
+    eleven_without_room.room = vec![0];
+    let mut eight_without_room = row("8 before 12", FIRST_LIST.to_vec(), slip(4, "leaf 1"), 8);
+    eight_without_room.room = vec![0];
+    vec![
+        row("8 before 11", thirteen(), slip(13, "leaf 0"), 8),
+        row("7 before 11", thirteen(), slip(12, ""), 7),
+        row("7 before 8", FIRST_LIST.to_vec(), slip(4, "leaf 1, 4 0"), 7),
+        row("chain 2", FIRST_LIST.to_vec(), slip(4, "chain 2"), 8),
+        row("no slip", FIRST_LIST.to_vec(), vec![], 7),
+        row("no list", vec![], slip(4, ""), 2),
+        row(
+            "m = 4,097",
+            Form::list(1024, first_pairs(4097)).bytes(),
+            vec![],
+            3,
+        ),
+        row(
+            "m = 4,096",
+            Form::list(1024, first_pairs(4096)).bytes(),
+            slip(1024, ""),
+            11,
+        ),
+        eleven_without_room,
+        eight_without_room,
+    ]
+}
+
+// Lift
+
+/// The rows of lift: the output is a pairing of the list.
+pub fn lift_rows() -> Vec<Row> {
+    let mut rows = lift_rows_of_leaves();
+    rows.extend(lift_rows_of_rings());
+    rows.extend(lift_rows_of_chains());
+    rows.extend(lift_rows_of_direct_pairs());
+    rows.extend(lift_rows_of_size());
+    rows.extend(lift_rows_of_pairs());
+    rows.extend(lift_rows_of_forms());
+    rows.extend(lift_rows_of_order());
+    rows.extend(rows::rows_of_buffers(
+        vec![
+            FIRST_LIST.to_vec(),
+            rows::CHAIN_ONE.to_vec(),
+            ZERO_THREE.to_vec(),
+        ],
+        vec![FIRST_PAIRING.to_vec()],
+    ));
+    rows
+}
+
+// A pairing of what a slip leaves of a list is lifted to one of the list.
+fn lifted(n: u64, text: &str, taken: &str, held: &str, to: &str) -> Row {
+    let name = format!("{text}; {taken}; {held}");
+    let files = vec![list(n, text), slip(n, taken), pairing(n, held)];
+    Row::new(&name, files, 1, Ok(vec![pairing(n, to)]))
+}
+
+// A pairing is refused for what a slip leaves of a list.
+fn not_lifted(n: u64, text: &str, taken: &str, held: &str, number: u32) -> Row {
+    let name = format!("{text}; {taken}; {held}");
+    let files = vec![list(n, text), slip(n, taken), pairing(n, held)];
+    Row::new(&name, files, 1, Err(number))
+}
+
+// No steps, and leaves.
+fn lift_rows_of_leaves() -> Vec<Row> {
+    vec![
+        lifted(0, "", "", "", ""),
+        lifted(4, FIRST, "", "0-1, 2-3", "0-1, 2-3"),
+        lifted(4, FIRST, "", "1-2", "1-2"),
+        lifted(4, FIRST, "", "", ""),
+        lifted(4, &all_pairs(4), "", "0-2, 1-3", "0-2, 1-3"),
+        lifted(4, FIRST, "leaf 0, leaf 2", "", "0-1, 2-3"),
+        lifted(4, FIRST, "leaf 3, leaf 1", "", "0-1, 2-3"),
+        lifted(4, FIRST, "leaf 0", "", "0-1"),
+        lifted(4, FIRST, "leaf 0", "2-3", "0-1, 2-3"),
+        // In slip order the leaves would put cell 1 in twice.
+        lifted(3, "0-1:3, 1-2:8", "leaf 0, leaf 1", "", "1-2"),
+        lifted(3, "0-1:3, 1-2:8", "leaf 0", "1-2", "1-2"),
+        lifted(3, "0-1:3, 1-2:8", "leaf 0", "", "0-1"),
+        lifted(2, "0-1:7", "leaf 0", "", "0-1"),
+        lifted(2, "0-1:7", "leaf 1", "", "0-1"),
+    ]
+}
+
+// Rings.
+fn lift_rows_of_rings() -> Vec<Row> {
+    vec![
+        lifted(3, TRIANGLE, "ring 1, leaf 0", "", "0-1"),
+        lifted(3, TRIANGLE, "ring 1, leaf 1", "", "0-1"),
+        lifted(3, TRIANGLE, "ring 1", "0-1", "0-1"),
+        lifted(3, TRIANGLE, "ring 1", "", "1-2"),
+        lifted(4, SQUARE, "ring 1, leaf 0", "", "0-3, 1-2"),
+        lifted(4, SQUARE, "ring 1", "0-1", "0-3, 1-2"),
+        // Of 1-2 and 2-3 the first one read is left out.
+        lifted(4, SQUARE, "ring 1", "", "2-3"),
+        lifted(3, EQUAL_TRIANGLE, "ring 1", "", "1-2"),
+        lifted(7, TWO_RINGS, "ring 2, ring 5", "", "2-3, 5-6"),
+        lifted(7, TWO_RINGS, "ring 5, ring 2", "", "2-3, 5-6"),
+        // From u towards its lower neighbour in the ring, 5 and not 0.
+        lifted(8, RING_AT_FOUR, "ring 5", "4-5", "4-7, 5-6"),
+        lifted(8, RING_AT_FOUR, "ring 5", "0-4", "0-4, 6-7"),
+        lifted(8, RING_AT_FOUR, "ring 5", "", "6-7"),
+        // From u towards 3, which is not z.
+        lifted(6, RING_TO_THREE, "ring 2", "0-2", "0-5, 2-3"),
+        lifted(6, RING_TO_THREE, "ring 2", "", "2-5"),
+        lifted(8, CHAIN_OF_RINGS, TAKEN_OF_RINGS, "", "0-2, 1-3, 4-5, 6-7"),
+        lifted(
+            8,
+            CHAIN_OF_RINGS,
+            "ring 4, leaf 4, leaf 2, leaf 0",
+            "3-7",
+            "0-1, 2-4, 3-7",
+        ),
+    ]
+}
+
+const TAKEN_OF_RINGS: &str = "ring 4, leaf 4, leaf 2, leaf 0, leaf 1, ring 6";
+
+// Chains without a direct pair.
+fn lift_rows_of_chains() -> Vec<Row> {
+    vec![
+        lifted(4, FIRST, "chain 1", "0-3", "0-1, 2-3"),
+        lifted(4, FIRST, "chain 1", "0-1", "0-1"),
+        lifted(4, FIRST, "chain 1", "1-3", "2-3"),
+        lifted(4, FIRST, "chain 1", "", "1-2"),
+        lifted(4, LARGEST, "chain 1", "0-3", "0-1, 2-3"),
+        lifted(4, ALL_ZERO, "chain 1", "", "1-2"),
+        lifted(4, ONE_ZERO, "chain 1", "0-3", "0-1, 2-3"),
+        lifted(4, ONE_ZERO, "chain 1", "1-3", "2-3"),
+        lifted(4, ONE_ZERO, "chain 1", "", "1-2"),
+        // Cell z lies below both ends, u is 2.
+        lifted(4, LOW_INNER, "chain 0", "2-3", "0-2, 1-3"),
+        lifted(4, LOW_INNER, "chain 0", "0-2", "0-2"),
+        lifted(4, LOW_INNER, "chain 0", "0-3", "1-3"),
+        lifted(4, LOW_INNER, "chain 0", "", "0-1"),
+        // From the lower end, not from z: 4-5 is read before 3-4.
+        lifted(6, CHAIN_FROM_FIVE, "chain 3", "", "3-4"),
+        lifted(6, CHAIN_FROM_FIVE, "chain 3", "0-1", "1-3, 4-5"),
+        lifted(6, CHAIN_FROM_FIVE, "chain 3", "0-3", "0-5, 3-4"),
+        lifted(6, CHAIN_FROM_FIVE, "chain 3", "1-3", "1-3, 4-5"),
+        // What the chain made is a ring; that is undone first.
+        lifted(4, FIRST, "chain 1, ring 1", "0-1", "0-1, 2-3"),
+        lifted(4, FIRST, "chain 1, ring 1", "", "2-3"),
+    ]
+}
+
+// Chains beside a direct pair.
+fn lift_rows_of_direct_pairs() -> Vec<Row> {
+    vec![
+        lifted(6, HEAVIER, "chain 1", "0-3", "0-3, 1-2"),
+        lifted(6, EQUAL, "chain 1", "0-3", "0-1, 2-3"),
+        lifted(6, LIGHTER, "chain 1", "0-3", "0-1, 2-3"),
+        // An entry of zero points is no direct pair, but the chain makes one of it.
+        lifted(4, ZERO_DIRECT, "chain 1", "0-3", "0-1, 2-3"),
+        lifted(4, ZERO_DIRECT, "chain 1, ring 1", "0-1", "0-1, 2-3"),
+        lifted(6, HEAVIER, "chain 1", "0-1", "0-1"),
+        lifted(6, HEAVIER, "chain 1", "0-1, 3-5", "0-1, 3-5"),
+        lifted(6, HEAVIER, "chain 1", "0-4, 1-3", "0-4, 2-3"),
+        lifted(6, HEAVIER, "chain 1", "0-4, 3-5", "0-4, 1-2, 3-5"),
+        lifted(6, HEAVIER, "chain 1", "0-4", "0-4, 1-2"),
+        lifted(6, HEAVIER, "chain 1", "", "1-2"),
+    ]
+}
+
+// The largest lists.
+fn lift_rows_of_size() -> Vec<Row> {
+    let nothing = pairing(1024, "");
+    vec![
+        Row::new(
+            "a path of 1,024 cells with rising points",
+            vec![rows::rising_path(), rows::leaves_of_path(), nothing],
+            1,
+            Ok(vec![couples(1024)]),
+        ),
+        Row::new(
+            "512 pairs, no step",
+            vec![list_of_couples(), slip(1024, ""), couples(1024)],
+            1,
+            Ok(vec![couples(1024)]),
+        ),
+        Row::new(
+            "m = 4,096, no step",
+            vec![
+                Form::list(1024, first_pairs(4096)).bytes(),
+                slip(1024, ""),
+                pairing(1024, "0-1023, 1-2"),
+            ],
+            1,
+            Ok(vec![pairing(1024, "0-1023, 1-2")]),
+        ),
+    ]
+}
+
+// Pairs that are not in the graph that the slip leaves, or a cell twice.
+fn lift_rows_of_pairs() -> Vec<Row> {
+    vec![
+        not_lifted(2, "0-1:0", "", "0-1", 10),
+        not_lifted(4, FIRST, "", "0-3", 10),
+        not_lifted(4, ZERO_DIRECT, "", "0-3", 10),
+        not_lifted(4, FIRST, "leaf 0", "0-1", 10),
+        not_lifted(4, FIRST, "leaf 0", "1-2", 10),
+        not_lifted(4, FIRST, "leaf 0, leaf 2", "2-3", 10),
+        not_lifted(4, FIRST, "chain 1", "1-2", 10),
+        not_lifted(4, FIRST, "chain 1", "2-3", 10),
+        not_lifted(4, FIRST, "chain 1", "0-1, 2-3", 10),
+        not_lifted(3, TRIANGLE, "ring 1", "0-2", 10),
+        not_lifted(3, EQUAL_TRIANGLE, "ring 1", "0-1", 10),
+        not_lifted(4, ALL_ZERO, "chain 1", "0-3", 10),
+        not_lifted(4, ONE_ZERO, "chain 1", "0-1", 10),
+        not_lifted(3, TRIANGLE, "", "0-2, 1-2", 10),
+        not_lifted(3, TRIANGLE, "", "0-1, 1-2", 10),
+        not_lifted(4, FIRST, "chain 1", "0-3, 1-3", 10),
+    ]
+}
+
+// Pairings of wrong form.
+fn lift_rows_of_forms() -> Vec<Row> {
+    let row = |name: &str, pairing: Vec<u8>| {
+        let files = vec![FIRST_LIST.to_vec(), slip(4, ""), pairing];
+        Row::new(name, files, 1, Err(9))
+    };
+    let with_zero_bits = |header: u64, entry: u64| {
+        let mut form = Form::pairing(4, vec![[0, 1, entry]]);
+        form.zero = header;
+        form.bytes()
+    };
+    vec![
+        row("no pairing", vec![]),
+        row("three bytes", FIRST_PAIRING[..3].to_vec()),
+        row("a byte missing", FIRST_PAIRING[..9].to_vec()),
+        row("a byte too many", [&FIRST_PAIRING[..], &[0]].concat()),
+        row("another n", pairing(5, "0-1")),
+        row("a slip for a pairing", rows::TWO_LEAVES.to_vec()),
+        row("a header zero bit", with_zero_bits(8, 0)),
+        row("an entry zero bit", with_zero_bits(0, 1)),
+        row("a cell not below n", pairing(4, "0-4")),
+        row("a not below b", pairing(4, "1-0")),
+        row("a cell with itself", pairing(4, "1-1")),
+        row("not ascending", pairing(4, "2-3, 0-1")),
+        row("a twice", pairing(4, "0-1, 0-2")),
+        row("a pair twice", pairing(4, "0-1, 0-1")),
+    ]
+}
+
+// The order of the refusals.
+fn lift_rows_of_order() -> Vec<Row> {
+    let row = |name: &str, list: Vec<u8>, slip: Vec<u8>, pairing: Vec<u8>, number| {
+        Row::new(name, vec![list, slip, pairing], 1, Err(number))
+    };
+    let first = || FIRST_LIST.to_vec();
+    let mut without_room = not_lifted(4, FIRST, "", "0-3", 10);
+    without_room.room = vec![0];
+    let mut too_long = not_lifted(4, FIRST, "leaf 0, leaf 2", "", 12);
+    too_long.room = vec![9];
+    vec![
+        row("6 before 7", list(4, "1-2:1, 0-1:1"), vec![], vec![], 6),
+        row(
+            "5 before 6",
+            list(4, "1-2:1, 0-1:1, 3-3:1"),
+            vec![],
+            vec![],
+            5,
+        ),
+        row("7 before 8", first(), slip(4, "leaf 1, 0 0"), vec![], 7),
+        row("8 before 9", first(), slip(4, "leaf 0, leaf 0"), vec![], 8),
+        row(
+            "8 before 10",
+            first(),
+            slip(4, "chain 2"),
+            pairing(4, "0-3"),
+            8,
+        ),
+        row(
+            "9 before 10",
+            first(),
+            slip(4, ""),
+            pairing(4, "0-3, 0-1"),
+            9,
+        ),
+        // More than 12 cells left are no matter for lift.
+        row(
+            "10 of 13 cells",
+            list(13, &all_pairs(13)),
+            slip(13, ""),
+            pairing(13, "0-1, 1-2"),
+            10,
+        ),
+        without_room,
+        too_long,
+    ]
+}
+
+// Pair
+
+/// The rows of pair: the output is a pairing of the list.
+pub fn pair_rows() -> Vec<Row> {
+    let mut rows = pair_rows_of_lists();
+    rows.extend(pair_rows_of_size());
+    rows.extend(pair_rows_of_refusals());
+    rows.extend(rows::rows_of_buffers(
+        vec![FIRST_LIST.to_vec()],
+        vec![FIRST_PAIRING.to_vec()],
+    ));
+    rows
+}
+
+// Pairing a list gives a pairing of it.
+fn paired(n: u64, text: &str, held: &str) -> Row {
+    Row::new(text, vec![list(n, text)], 1, Ok(vec![pairing(n, held)]))
+}
+
+// Lists of a few cells.
+fn pair_rows_of_lists() -> Vec<Row> {
+    vec![
+        Row::new(
+            "the first list in bytes",
+            vec![FIRST_LIST.to_vec()],
+            1,
+            Ok(vec![FIRST_PAIRING.to_vec()]),
+        ),
+        paired(4, LARGEST, "0-1, 2-3"),
+        paired(3, "0-1:3, 1-2:8", "1-2"),
+        paired(3, TRIANGLE, "0-1"),
+        paired(4, SQUARE, "0-3, 1-2"),
+        paired(3, EQUAL_TRIANGLE, "1-2"),
+        paired(7, TWO_RINGS, "2-3, 5-6"),
+        paired(8, CHAIN_OF_RINGS, "0-2, 1-3, 4-5, 6-7"),
+        paired(4, "0-2:5, 0-3:5, 1-2:9", "0-3, 1-2"),
+        paired(4, LOW_INNER, "0-2, 1-3"),
+        // Leaves 4 and 5, then a ring of which two are best at 19.
+        paired(6, HEAVIER, "0-3, 1-2"),
+        paired(6, EQUAL, "0-3, 1-2"),
+        paired(6, LIGHTER, "0-1, 2-3"),
+        paired(8, RING_AT_FOUR, "4-7, 5-6"),
+        paired(6, RING_TO_THREE, "0-5, 2-3"),
+        // No step: the tie is that of solve.
+        paired(5, SINGLE_CELLS, "0-2, 1-3"),
+        paired(4, &all_pairs(4), "0-1, 2-3"),
+        paired(0, "", ""),
+        paired(5, "", ""),
+        paired(2, "0-1:0", ""),
+    ]
+}
+
+// Lists of 12 cells left and of the most cells.
+fn pair_rows_of_size() -> Vec<Row> {
+    let with_leaf = {
+        let mut entries = all_pairs_of(12, 5);
+        entries.push([0, 12, 1]);
+        entries.sort();
+        Form::list(13, entries).bytes()
+    };
+    let row = |name: &str, list: Vec<u8>, pairing: Vec<u8>| {
+        Row::new(name, vec![list], 1, Ok(vec![pairing]))
+    };
+    let six = "0-1, 2-3, 4-5, 6-7, 8-9, 10-11";
+    let zeros = Form::list(13, all_pairs_of(13, 0)).bytes();
+    vec![
+        row("12 cells", list(12, &all_pairs(12)), couples(12)),
+        row("12 after a leaf", with_leaf, pairing(13, six)),
+        row("13 cells, zero points", zeros, pairing(13, "")),
+        row("512 pairs", list_of_couples(), couples(1024)),
+        row(
+            "a path of rising points",
+            rows::rising_path(),
+            couples(1024),
+        ),
+        row(
+            "0-1023:7",
+            rows::WIDE_LIST.to_vec(),
+            pairing(1024, "0-1023"),
+        ),
+    ]
+}
+
+// Lists that are refused.
+fn pair_rows_of_refusals() -> Vec<Row> {
+    let refused = |name: &str, list: Vec<u8>, number| Row::new(name, vec![list], 1, Err(number));
+    let mut without_room = refused("11 before 12", list(13, &all_pairs(13)), 11);
+    without_room.room = vec![0];
+    vec![
+        refused("13 cells", list(13, &all_pairs(13)), 11),
+        refused("m = 4,096", Form::list(1024, first_pairs(4096)).bytes(), 11),
+        refused("m = 4,097", Form::list(1024, first_pairs(4097)).bytes(), 3),
+        refused("no list", vec![], 2),
+        refused("a pairing for a list", FIRST_PAIRING.to_vec(), 2),
+        refused("n = 1,025", list(1025, "0-1023:7"), 3),
+        refused("a byte too many", [&FIRST_LIST[..], &[0]].concat(), 4),
+        refused("n = 1,023 with cell 1,023", list(1023, "0-1023:7"), 5),
+        refused("an entry twice", list(4, "0-1:1, 0-1:1"), 6),
+        without_room,
+    ]
+}
