@@ -15,7 +15,7 @@ use Rattle.cellfile.proofs.Rows.{first-none}
 -- ---- answers
 
 -- an answer with no value is a refusal, where an accepted one has a value
-answer-refused : (n k v : ℕ) (vs : List ℕ) → (k, []) ≡ answer n (v ∷ vs) → (0 < n) × (k ≡ n)
+pub answer-refused : (n k v : ℕ) (vs : List ℕ) → (k, []) ≡ answer n (v ∷ vs) → (0 < n) × (k ≡ n)
 answer-refused zero k v vs e = absurd (omega (arith, ap (λ (a : Answer). length (a .1)) e))
 answer-refused (suc n) k v vs e = (omega arith, ap (λ (a : Answer). a .0) e)
 
@@ -26,7 +26,7 @@ answer-accepted (suc n) us vs e = absurd (omega (arith, ap (λ (a : Answer). a .
 
 -- ---- rows after rows
 
-first-refused : (rows more : List Row) → 0 < first rows → first (rows ++ more) ≡ first rows
+pub first-refused : (rows more : List Row) → 0 < first rows → first (rows ++ more) ≡ first rows
 first-refused [] more h = absurd (omega arith)
 first-refused (r ∷ rows) more h = go (r .1) h (first-refused rows more)
   where
@@ -35,7 +35,7 @@ first-refused (r ∷ rows) more h = go (r .1) h (first-refused rows more)
     go true k i = refl
     go false k i = i k
 
-first-passed : (rows more : List Row) → All (λ (r : Row). r .1 ≡ false) rows → first (rows ++ more) ≡ first more
+pub first-passed : (rows more : List Row) → All (λ (r : Row). r .1 ≡ false) rows → first (rows ++ more) ≡ first more
 first-passed [] more h = refl
 first-passed (r ∷ rows) more h = rw (h .0, first-passed rows more (h .1))
 

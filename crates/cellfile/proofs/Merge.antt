@@ -25,17 +25,17 @@ use Rattle.cellfile.specs.declared.Weighed.the-variants.{Refused, Points
 abbrev pub Ordered : ℕ → ℕ → Type 0
 Ordered a b = (a < b) × (b < 1024)
 
-abbrev OrderedEntries : List Entry → Type 0
+abbrev pub OrderedEntries : List Entry → Type 0
 OrderedEntries es = All (λ (e : Entry). Ordered (e .0) (e .1)) es
 
-abbrev OrderedPairs : List Pair → Type 0
+abbrev pub OrderedPairs : List Pair → Type 0
 OrderedPairs ps = All (λ (p : Pair). Ordered (p .0) (p .1)) ps
 
 -- Their keys.
-abbrev entryKey : Entry → ℕ
+abbrev pub entryKey : Entry → ℕ
 entryKey e = key (e .0) (e .1)
 
-abbrev pairKey : Pair → ℕ
+abbrev pub pairKey : Pair → ℕ
 pairKey p = key (p .0) (p .1)
 
 -- Cells in their order are the same where their keys are equal.
@@ -64,14 +64,14 @@ ascending-all f P low (x ∷ xs) g s =
     (g x (t .0), ascending-all f P (suc (f x)) xs (λ y h. g y (omega arith)) (t .1))
 
 -- Entries whose keys are above the pair's say nothing of it.
-none : (es : List Entry) (p : Pair) → OrderedEntries es → Ordered (p .0) (p .1)
+pub not-joined : (es : List Entry) (p : Pair) → OrderedEntries es → Ordered (p .0) (p .1)
     → All (λ (e : Entry). pairKey p < entryKey e) es
     → (joined es (p .0) (p .1) ≡ 0) × (listed es (p .0) (p .1) ≡ 0)
 unfolding joined listed
-none [] p o q h = (refl, refl)
-none (e ∷ es) p o q h =
+not-joined [] p o q h = (refl, refl)
+not-joined (e ∷ es) p o q h =
     let n = fails (keyT (e .0) (e .1) (p .0) (p .1) (o .0) q) (omega arith) in
-    let i = none es p (o .1) q (h .1) in
+    let i = not-joined es p (o .1) q (h .1) in
     (joined-apart e es (p .0) (p .1) n ∙ i .0, listed-apart e es (p .0) (p .1) n ∙ i .1)
 
 -- Whether the entries join every pair, and what weighing then answers.
@@ -100,7 +100,7 @@ met e es p ps o q k above later =
     let y = passes (keyT (e .0) (e .1) (p .0) (p .1) (o .0) (q .0)) (λ n. n k) in
     let j = lt-ltb 0 (joined (e ∷ es) (p .0) (p .1)) (omega (arith, joined-same e es (p .0) (p .1) y)) in
     let i = past e es ps (o .0) (q .1) later in
-    (rw (j, i .0), omega (arith, listed-same e es (p .0) (p .1) y, none es p (o .1) (q .0) above, i .1))
+    (rw (j, i .0), omega (arith, listed-same e es (p .0) (p .1) y, not-joined es p (o .1) (q .0) above, i .1))
 
 -- The merge answers what was found before and the pairs' points, or 10 where no entry joins some pair.
 pub merged-is : (es : List Entry) (ps : List Pair) (low low' found : ℕ)
@@ -111,7 +111,7 @@ pub merged-is : (es : List Entry) (ps : List Pair) (low low' found : ℕ)
     → merged es ps found
     ≡ cond (all (λ (p : Pair). ltb 0 (joined es (p .0) (p .1))) ps) (Points (found + sum (listed es) ps)) (Refused 10)
 merged-is es [] low low' found o s q r = rw add-zero
-merged-is [] (p ∷ ps) low low' found o s q r = rw (none [] p tt (q .0) tt .0)
+merged-is [] (p ∷ ps) low low' found o s q r = rw (not-joined [] p tt (q .0) tt .0)
 merged-is (e ∷ es) (p ∷ ps) low low' found o s q r =
     go (ltT (pairKey p) (entryKey e)) (eqT (entryKey e) (pairKey p))
     (merged-is es ps (suc (entryKey e)) (suc (p .0)) (found + e .2) (o .1) (t .1) (q .1) (u .1))
@@ -135,7 +135,7 @@ merged-is (e ∷ es) (p ∷ ps) low low' found o s q r =
         → merged es (p ∷ ps) found ≡ outcome (join es (p ∷ ps)) (found + sum (listed es) (p ∷ ps))
         → cond a (Refused 10) (cond b (merged es ps (found + e .2)) (merged es (p ∷ ps) found))
         ≡ outcome (join (e ∷ es) (p ∷ ps)) (found + sum (listed (e ∷ es)) (p ∷ ps))
-    go (pass h) y i j = rw (none (e ∷ es) p o (q .0) (h, above (omega arith)) .0)
+    go (pass h) y i j = rw (not-joined (e ∷ es) p o (q .0) (h, above (omega arith)) .0)
     go (fail h) (pass k) i j =
         let m = met e es p ps o q k (above (omega arith)) (later h) in
         i ∙ ap₂ outcome (m .0) (omega (arith, m .1))

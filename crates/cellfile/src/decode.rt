@@ -70,7 +70,7 @@ pub fn byte_at(s: &[u8], i: usize) -> u64
 }
 
 // The number that the first `size` bytes write.
-fn number_at(s: &[u8], size: usize) -> u64
+pub fn number_at(s: &[u8], size: usize) -> u64
     requires { ⌜ size ≤ 8 ⌝ }
     ensures { λ r. ⌜ r ≡ number size (now (s .entry)) ⌝ }
 {

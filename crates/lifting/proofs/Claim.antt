@@ -252,18 +252,24 @@ demand-three list slip pairing h = go (stepsOn list (stepsOf slip)) refl
 
 module _ (list : List ℕ) (h : first (listRows storeList list) ≡ 0) where
   -- the solution of what reduce leaves is heaviest there
-  best-left : Heaviest (leftOver list) (leftOver list) (solution (cellsOf list) (leftOver list))
+  pub best-left : Heaviest (leftOver list) (leftOver list) (solution (cellsOf list) (leftOver list))
   best-left =
       solution-heaviest (cellsOf list) (leftOver list)
       (slip-graph (list-graph list h) (reduceSteps list)
       (replay-fits (list-graph list h) (map name (reduceSteps list)) (reduceSteps list) (reduce-allowed list h) .0))
 
+  -- the pairs that pair writes
+  pub pairing-read : pairsOf (pairingFile list)
+      ≡ filed (lift (graphIn list) (reduceSteps list) (solution (cellsOf list) (leftOver list)))
+  pairing-read =
+      lifted-read list h (map name (reduceSteps list)) (reduceSteps list) (reduce-allowed list h)
+      (solution (cellsOf list) (leftOver list)) (best-left .pairing)
+
   best-store : Heaviest (joined (entriesOf storeList list)) (listed (entriesOf storeList list))
       (pairsOf (pairingFile list))
   best-store =
       subst (Heaviest (joined (entriesOf storeList list)) (listed (entriesOf storeList list)))
-      (sym (lifted-read list h (map name (reduceSteps list)) (reduceSteps list) (reduce-allowed list h)
-      (solution (cellsOf list) (leftOver list)) (best-left .pairing)))
+      (sym pairing-read)
       (heaviest-lifted list h (map name (reduceSteps list)) (reduceSteps list) (reduce-allowed list h)
       (solution (cellsOf list) (leftOver list)) best-left)
 

@@ -1,7 +1,10 @@
 // The worked lists that are compared by running the calls: those that concern sizes, each weighed with the empty
-// pairing; a list that no step shortens, reduced; a list whose points outgrow 20 bits, replayed.
+// pairing; a list that no step shortens, reduced; a list whose points outgrow 20 bits, replayed; all pairs of 12 and of
+// 13 cells, solved.
 use cellfile::Weighed;
+use cellfile::decode;
 use cellfile::decode::byte_at;
+use lifting::Paired;
 use reduction::Reduced;
 use reduction::Replayed;
 ghost use mathlib.Core.Path.{_≡_};
@@ -107,6 +110,75 @@ fn show_replayed(name: &[u8], list: &[u8], slip: &[u8]) {
     }
 }
 
+// Writes the pair that starts at place i of a pairing: a-b.
+fn pair(pairing: &[u8], i: usize)
+    requires { ⌜ i ≤ length (now pairing) ⌝ }
+{
+    let p = decode::pair_at(&pairing[i..]);
+    io::write_all(1, b" ");
+    io::print_decimal(1, p.a as u64);
+    io::write_all(1, b"-");
+    io::print_decimal(1, p.b as u64);
+}
+
+// Solves what the empty slip leaves of the list, which pairs 12 cells, and writes the pairs.
+fn show_solved(name: &[u8], list: &[u8], empty: &[u8]) {
+    let mut work_a = [0u64; 8192];
+    let mut work_b = [0u64; 8192];
+    let mut pairing = [0u8; 64];
+    match lifting::solve(list, empty, &mut work_a, &mut work_b, &mut pairing) {
+        Paired::Refused(k) => line(name, b"refused ", k as u64),
+        Paired::Length(k) => {
+            line(name, b"bytes of the pairing ", k as u64);
+            io::write_all(1, name);
+            io::write_all(1, b"pairs");
+            pair(&pairing, 4);
+            pair(&pairing, 7);
+            pair(&pairing, 10);
+            pair(&pairing, 13);
+            pair(&pairing, 16);
+            pair(&pairing, 19);
+            io::write_all(1, b"\n");
+        }
+    }
+}
+
+// Writes the pairs 0-1, 0-2, .., of c cells, one point each: m of them from the fifth byte on.
+fn fill_complete(list: &mut [u8], c: usize, m: usize)
+    requires { ⌜ (m ≤ 78) × (4 + 5 * m ≤ length (now list)) ⌝ }
+    ensures { λ _. ⌜ length (now (list .exit)) ≡ length (now (list .entry)) ⌝ }
+{
+    let mut a = 0;
+    let mut b = 1;
+    let mut i = 0;
+    while i < m {
+        let at = 4 + 5 * i;
+        list[at] = (a / 4 % 256) as u8;
+        list[at + 1] = (a % 4 * 64) as u8;
+        list[at + 2] = (b % 16 * 16) as u8;
+        list[at + 4] = 1;
+        i += 1;
+        b += 1;
+        if c <= b {
+            a += 1;
+            b = a + 1;
+        }
+    }
+}
+
+// Shows the list of all m pairs of c cells; `last` is the last byte of its header.
+fn show_complete(name: &[u8], c: usize, m: usize, last: u8, empty: &[u8], list: &mut [u8])
+    requires { ⌜ (m ≤ 78) × (4 + 5 * m ≤ length (now list)) ⌝ }
+{
+    fill_complete(list, c, m);
+    list[0] = 0x10;
+    list[1] = (2 * (c % 64)) as u8;
+    list[2] = 0x04;
+    list[3] = last;
+    let end = 4 + 5 * m;
+    show_solved(name, &list[0..end], empty);
+}
+
 fn main() {
     show(
         b"n 1024, cell 1023: ",
@@ -135,5 +207,23 @@ fn main() {
         b"0-1:1048575, 1-2:1, 2-3:1048575, chain 1: ",
         b"\x10\x08\x00\x30\x00\x00\x1F\xFF\xFF\x00\x40\x20\x00\x01\x00\x80\x3F\xFF\xFF",
         b"\x30\x08\x00\x10\x0C\x01",
+    );
+    let mut twelve = [0u8; 334];
+    show_complete(
+        b"all pairs of 12 cells, one point each: ",
+        12,
+        66,
+        0x20,
+        b"\x30\x18\x00\x00",
+        &mut twelve,
+    );
+    let mut thirteen = [0u8; 394];
+    show_complete(
+        b"all pairs of 13 cells, one point each: ",
+        13,
+        78,
+        0xE0,
+        b"\x30\x1A\x00\x00",
+        &mut thirteen,
     );
 }

@@ -1,0 +1,3 @@
+-- The text that the program prints.
+pub mod Printed
+pub mod Writing
