@@ -1,10 +1,99 @@
 #!/bin/sh
-# Builds the archive of the C interface and measures reduce over it, from the
-# repository's root. A seed may be given.
+# Builds the archive of the C interface and the benchmark over it, and measures reduce, lift and pair next to LEMON.
+#
+#     sh bench/run.sh [SEED]             every family of shapes; table and chart in target/bench
+#     sh bench/run.sh --record [SEED]    the same, and puts both into docs/PERFORMANCE.md and docs/performance.svg
+#     sh bench/run.sh --lists FILE...    these store lists; prints what the calls make of them, and the times
+#
+# LEMON takes part where liblemon-dev is installed. The exit status is 1 where a total is not LEMON's.
 set -eu
+first=$PWD
+cd "$(dirname "$0")/.."
+out=target/bench
+mkdir -p "$out"
 
-rt staticlib cells_c
-mkdir -p target/bench
-rustc -O --edition 2021 -o target/bench/tree bench/tree.rs \
-    -L native=target/staticlib -l static=cells_c
-target/bench/tree "$@"
+# The flags with which LEMON compiles here, or none.
+lemon_flags() {
+    flags="-DHAVE_LEMON -DLEMON_ONLY_TEMPLATES"
+    if echo '#include <lemon/matching.h>' | g++ -std=c++17 $flags -x c++ -fsyntax-only - 2> "$out/lemon.log"; then
+        echo "$flags"
+    fi
+}
+
+# The archive, then the benchmark.
+build() {
+    rt staticlib cells_c > "$out/build.log" 2>&1 || { cat "$out/build.log" >&2; exit 1; }
+    flags=$(lemon_flags)
+    if [ -n "$flags" ]; then
+        echo "LEMON is installed: its times stand beside ours."
+    else
+        echo "LEMON (liblemon-dev) is not installed: ours only."
+    fi
+    # The archive stands right behind place.s, which fixes the place of its code.
+    g++ -std=c++17 -O3 -DNDEBUG $flags -Iinclude -o "$out/bench" bench/place.s \
+        -Wl,--whole-archive target/staticlib/libcells_c.a -Wl,--no-whole-archive bench/main.cpp
+}
+
+# The day, the machine, how busy it was before the run, and the compiler.
+load=$(cut -d ' ' -f 1 /proc/loadavg)
+machine() {
+    model=$(sed -n 's/^model name[[:space:]]*: //p' /proc/cpuinfo | head -n 1)
+    echo "Measured on $(date +%Y-%m-%d) on $(nproc) cores (${model:-unknown processor}), which had a load of $load before"
+    echo "the run (0 is a quiet machine); compiled with $(g++ --version | head -n 1)."
+}
+
+# Puts the measured part between its two marks in docs/PERFORMANCE.md, and the chart beside it.
+record() {
+    awk -v part="$out/measured.md" '
+        /^<!-- measured: end -->$/ { inside = 0 }
+        !inside { print }
+        /^<!-- measured: start -->$/ { inside = 1; print ""; while ((getline line < part) > 0) print line; print "" }
+    ' docs/PERFORMANCE.md > "$out/PERFORMANCE.md"
+    cp "$out/PERFORMANCE.md" docs/PERFORMANCE.md
+    cp "$out/chart.svg" docs/performance.svg
+}
+
+# Every family, with this seed.
+measure() {
+    "$out/bench" families "$out" "$1"
+    { machine; echo; cat "$out/table.md"; } > "$out/measured.md"
+    cat "$out/measured.md"
+    echo "The chart is $out/chart.svg."
+}
+
+# Ends the run with a message.
+fail() {
+    echo "bench/run.sh: $1" >&2
+    exit 1
+}
+
+# The seed that is given, or 1.
+seed() {
+    case "${1:-1}" in
+    *[!0-9]*) fail "'$1' is no seed; the first lines of bench/run.sh say what may be given" ;;
+    *) echo "${1:-1}" ;;
+    esac
+}
+
+case "${1:-}" in
+--lists)
+    shift
+    [ $# -gt 0 ] || fail "--lists takes the names of store lists"
+    build
+    root=$PWD
+    cd "$first"
+    exec "$root/$out/bench" lists "$@"
+    ;;
+--record)
+    chosen=$(seed "${2:-}")
+    grep -q '^<!-- measured: start -->$' docs/PERFORMANCE.md || fail "docs/PERFORMANCE.md has no place for the tables"
+    build
+    measure "$chosen"
+    record
+    ;;
+*)
+    chosen=$(seed "${1:-}")
+    build
+    measure "$chosen"
+    ;;
+esac

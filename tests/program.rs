@@ -11,6 +11,7 @@
 
 use std::collections::BTreeMap;
 use std::env;
+use std::fs;
 use std::io::Write;
 use std::process::{exit, Command, Output, Stdio};
 use std::thread;
@@ -45,6 +46,17 @@ pair 0 1 10
 pair 2 3 10
 total 20
 ";
+
+/// The samples with their last line, as samples/README.md has them.
+const SAMPLES: [(&str, &str); 7] = [
+    ("first", "total 20\n"),
+    ("triangle", "total 5\n"),
+    ("ring-of-four", "total 10\n"),
+    ("workshop", "total 11427\n"),
+    ("store", "total 306341482\n"),
+    ("thirteen", "refused 11\n"),
+    ("damaged", "refused 4\n"),
+];
 
 /// The runs so far: the program, and how often each first word and number was met.
 struct Runs {
@@ -280,6 +292,21 @@ fn run_pieces(runs: &mut Runs) {
     runs.compare("too long in pieces", &pieces, "refused 4\n");
 }
 
+// The samples: the lines that their README has in its table, and the reference's text.
+fn run_samples(runs: &mut Runs) {
+    for (name, last) in SAMPLES {
+        let path = format!("samples/{name}.bin");
+        let given = fs::read(&path).unwrap_or_else(|wrong| panic!("{path}: {wrong}"));
+        let text = printed(&given);
+        if !text.ends_with(last) {
+            println!("FAULT of the reference: {path}: {text}and not\n{last}");
+            println!("FAIL");
+            exit(1);
+        }
+        runs.compare(&path, &[&given], &text);
+    }
+}
+
 // Random inputs
 
 // Random lists, good and bad, some of them in pieces.
@@ -336,6 +363,7 @@ fn main() {
     run_long_inputs(&mut runs);
     run_damaged_lists(&mut runs);
     run_pieces(&mut runs);
+    run_samples(&mut runs);
     run_random_lists(&mut runs, seed, lists);
     let seconds = start.elapsed().as_secs_f64();
     println!("program: {} runs, {seconds:.2} seconds", runs.runs);

@@ -1,0 +1,384 @@
+"""Tests of cells.py and of the samples: python3 tools/test_cells.py"""
+
+import functools
+import os
+import random
+import re
+import subprocess
+import sys
+import tempfile
+import unittest
+
+HERE = os.path.dirname(os.path.abspath(__file__))
+sys.path.insert(0, HERE)
+
+import cells  # noqa: E402
+
+SAMPLES = os.path.join(HERE, os.pardir, "samples")
+FIRST_TEXT = "0-1:10\n1-2:1\n2-3:10\n"
+FIRST_ENTRIES = [(0, 1, 10), (1, 2, 1), (2, 3, 10)]
+FIRST_LIST = bytes.fromhex("10080030 000010000A 0040200001 008030000A")
+FIRST_PAIRING = bytes.fromhex("40080020 000010 008030")
+FIRST_SLIP = bytes.fromhex("30080020 0400 0402")
+FIRST_SHORT = bytes.fromhex("20080030 0000000000000001 0000100000000009 0000300000000013 0040300000000009")
+FIRST_PRINTED = "steps 2\ncarried 20\nshort 0\npair 0 1 10\npair 2 3 10\ntotal 20\n"
+
+
+def header(kind, n, m, zero_bits=0):
+    """A file's first four bytes."""
+    return (kind << 28 | n << 17 | m << 4 | zero_bits).to_bytes(4, "big")
+
+
+def command(words, given=b""):
+    """The exit status, output and messages of the command."""
+    run = subprocess.run([sys.executable, os.path.join(HERE, "cells.py"), *words], input=given, capture_output=True)
+    return run.returncode, run.stdout, run.stderr.decode()
+
+
+def sample(name):
+    """The bytes of a sample."""
+    return cells.bytes_of(os.path.join(SAMPLES, name))
+
+
+def heaviest(entries):
+    """The points of a heaviest pairing, by trying all pairings of the lowest cell first."""
+    near = {}
+    for a, b, points in entries:
+        near.setdefault(a, []).append((b, points))
+
+    @functools.lru_cache(None)
+    def best(left):
+        if not left:
+            return 0
+        lowest, rest = left[0], left[1:]
+        results = [best(rest)]
+        for b, points in near.get(lowest, []):
+            if b in rest:
+                results.append(points + best(tuple(cell for cell in rest if cell != b)))
+        return max(results)
+
+    return sum(best(group) for group in groups(entries))
+
+
+def groups(entries):
+    """The cells of each connected group, ascending."""
+    group = {}
+    for a, b, _ in entries:
+        joined = group.get(a, {a}) | group.get(b, {b})
+        for cell in joined:
+            group[cell] = joined
+    return sorted({tuple(sorted(cells_of)) for cells_of in group.values()})
+
+
+class Refusing(unittest.TestCase):
+    """Helpers for what must be refused."""
+
+    def wrong(self, pattern, call, *arguments):
+        """The call must be refused with a message that has this pattern."""
+        with self.assertRaisesRegex(cells.Wrong, pattern):
+            call(*arguments)
+
+
+class TextToList(Refusing):
+    def test_first_list(self):
+        self.assertEqual(cells.parse_list(FIRST_TEXT), (4, FIRST_ENTRIES))
+        self.assertEqual(cells.store_list(4, FIRST_ENTRIES), FIRST_LIST)
+
+    def test_either_cell_first_and_any_order(self):
+        self.assertEqual(cells.parse_list("3-2:10\n1-0:10\n2-1:1\n"), (4, FIRST_ENTRIES))
+
+    def test_comments_blanks_and_cells(self):
+        text = "# a store\n\n n 9 # nine\n 0-1:10 # near\r\n\t1 - 2 : 1\n2-3:10"
+        self.assertEqual(cells.parse_list(text), (9, FIRST_ENTRIES))
+
+    def test_empty(self):
+        self.assertEqual(cells.parse_list(""), (0, []))
+        self.assertEqual(cells.parse_list("n 0"), (0, []))
+        self.assertEqual(cells.parse_list("n 1024"), (1024, []))
+        self.assertEqual(cells.store_list(0, []), header(1, 0, 0))
+
+    def test_limits(self):
+        self.assertEqual(cells.parse_list("0-1023:1048575"), (1024, [(0, 1023, 1048575)]))
+        self.assertEqual(cells.parse_list("0-1:0"), (2, [(0, 1, 0)]))
+
+    def test_lines_that_are_refused(self):
+        for text, pattern in [
+            ("0-1", "line 1: '0-1' is not of the form"),
+            ("0-1:1\n\n0-2:x", "line 3: '0-2:x'"),
+            ("0-1:-1", "line 1"),
+            ("0-1:1.5", "line 1"),
+            ("0-1:" + "9" * 5000, "line 1"),
+            ("٣-1:1", "line 1"),
+            ("0-0:1", "line 1: cell 0 is paired with itself"),
+            ("0-1024:1", "line 1: cell 1024 is not below 1024"),
+            ("1024-0:1", "line 1: cell 1024"),
+            ("0-1:1048576", "line 1: 1048576 points are above 1048575"),
+            ("0-1:1\n1-0:2", "line 2: the pair 0-1 is given in line 1 already"),
+            ("n 3\n0-1:1\n0-3:1", "line 3: cell 3 is not below n = 3"),
+            ("n 1025", "line 1: 1025 cells"),
+            ("n 3\nn 3", "line 2: 'n' stands once"),
+            ("0-1:1\nn 3", "line 2: 'n' stands once"),
+            ("n", "line 1"),
+        ]:
+            with self.subTest(text[:20]):
+                self.wrong(pattern, cells.parse_list, text)
+
+    def test_number_of_pairs(self):
+        pairs = [f"{a}-{b}:1" for a in range(92) for b in range(a + 1, 92)]
+        self.assertEqual(len(cells.parse_list("\n".join(pairs[:4096]))[1]), 4096)
+        self.wrong("line 4097: more than 4096 pairs", cells.parse_list, "\n".join(pairs[:4097]))
+
+    def test_parts(self):
+        self.assertEqual(list(cells.significant_lines("\n a # b\n#c\nd")), [(2, "a"), (4, "d")])
+        self.assertEqual(cells.entry_of_line("7-3:5", 1), (3, 7, 5))
+        self.assertEqual(cells.highest_cell([]), -1)
+        self.assertEqual(cells.highest_cell(FIRST_ENTRIES), 3)
+        self.assertEqual(cells.cells_given(5, 1, None, []), 5)
+        lines = {}
+        cells.check_new((0, 1, 5), 4, lines)
+        self.assertEqual(lines, {(0, 1): 4})
+        cells.check_fits(4, FIRST_ENTRIES, {})
+
+
+class FilesToText(Refusing):
+    def test_store_list(self):
+        self.assertEqual(cells.show(FIRST_LIST), "# store list\nn 4\n" + FIRST_TEXT)
+
+    def test_short_list(self):
+        self.assertEqual(cells.show(FIRST_SHORT), "# short list\nn 4\ncarried 1\n0-1:9\n0-3:19\n1-3:9\n")
+
+    def test_slip(self):
+        self.assertEqual(cells.show(FIRST_SLIP), "# slip\nn 4\nleaf 0\nleaf 2\n")
+        self.assertEqual(cells.entry_text(cells.SLIP, (2, 7)), "ring 7")
+        self.assertEqual(cells.entry_text(cells.SLIP, (3, 1023)), "chain 1023")
+
+    def test_pairing(self):
+        self.assertEqual(cells.show(FIRST_PAIRING), "# pairing\nn 4\n0-1\n2-3\n")
+
+    def test_largest_fields(self):
+        short = header(2, 1024, 1) + b"\xff" * 8 + (1022 << 54 | 1023 << 44 | (1 << 44) - 1).to_bytes(8, "big")
+        self.assertEqual(cells.read_file(short), (2, 1024, 2**64 - 1, [(1022, 1023, 2**44 - 1)]))
+
+    def test_parts(self):
+        self.assertEqual(cells.read_header(FIRST_LIST), (1, 4, 3, 0))
+        self.assertEqual([cells.first_byte(kind, 2) for kind in (1, 2, 3, 4)], [14, 28, 8, 10])
+        self.assertEqual(cells.records(FIRST_SLIP, cells.SLIP, 2), [0x0400, 0x0402])
+        self.assertEqual(cells.refusal(cells.STORE_LIST, 5), " (refusal 5)")
+        self.assertEqual(cells.refusal(cells.SHORT_LIST, 5), "")
+
+    def test_round_trips(self):
+        rng = random.Random(1)
+        for _ in range(200):
+            n = rng.randint(2, 1024)
+            pairs = {tuple(sorted(rng.sample(range(n), 2))) for _ in range(rng.randint(0, 60))}
+            entries = sorted((a, b, rng.randint(0, 1048575)) for a, b in pairs)
+            data = cells.store_list(n, entries)
+            self.assertEqual(cells.parse_list(cells.show(data)), (n, entries))
+            self.assertEqual(cells.store_list(*cells.parse_list(cells.show(data))), data)
+
+
+class DamagedFiles(Refusing):
+    def shown_wrong(self, *rows):
+        """Each row's file must be refused with its pattern."""
+        for data, pattern in rows:
+            with self.subTest(data.hex()):
+                self.wrong(pattern, cells.show, data)
+
+    def test_no_file(self):
+        self.shown_wrong(
+            (b"", "0 bytes"),
+            (b"\x10\x08\x00", "3 bytes"),
+            (header(0, 4, 0), "byte 0: kind 0 is none of 1 to 4"),
+            (header(5, 4, 0), "kind 5"),
+        )
+
+    def test_store_lists(self):
+        one, other = FIRST_LIST[4:9], FIRST_LIST[9:14]
+        self.shown_wrong(
+            (header(1, 4, 0, 1), r"byte 3: .* \(refusal 2\)"),
+            (header(1, 1025, 0), r"n = 1025.*\(refusal 3\)"),
+            (header(1, 4, 4097), r"m = 4097.*\(refusal 3\)"),
+            (header(1, 4, 1), r"4 bytes, but m = 1 makes 9 \(refusal 4\)"),
+            (FIRST_LIST[:-1], r"18 bytes.*\(refusal 4\)"),
+            (FIRST_LIST + b"\0", r"20 bytes.*\(refusal 4\)"),
+            (header(1, 2, 2) + one + other, r"byte 9: .*1-2 is not a < b < n = 2 \(refusal 5\)"),
+            (header(1, 4, 1) + (1 << 30 | 1 << 20).to_bytes(5, "big"), r"byte 4: .*1-1.*\(refusal 5\)"),
+            (header(1, 4, 2) + other + one, r"byte 9: .*entry 2 is not above.*\(refusal 6\)"),
+            (header(1, 4, 2) + one + one, r"\(refusal 6\)"),
+            (header(1, 2, 3) + one + one + other, r"\(refusal 5\)"),
+        )
+
+    def test_slips(self):
+        self.shown_wrong(
+            (header(3, 4, 0, 8), r"byte 3: .*\(refusal 7\)"),
+            (header(3, 1025, 0), r"\(refusal 7\)"),
+            (FIRST_SLIP[:-1], r"7 bytes.*\(refusal 7\)"),
+            (header(3, 4, 1) + b"\0\0", r"byte 4: rule 0.*\(refusal 7\)"),
+            (header(3, 4, 2) + b"\4\0\x10\0", r"byte 6: rule 4.*\(refusal 7\)"),
+        )
+
+    def test_pairings(self):
+        one, other = FIRST_PAIRING[4:7], FIRST_PAIRING[7:]
+        self.shown_wrong(
+            (header(4, 4, 0, 2), r"byte 3: .*\(refusal 9\)"),
+            (header(4, 1025, 0), r"\(refusal 9\)"),
+            (FIRST_PAIRING + b"\0", r"11 bytes.*\(refusal 9\)"),
+            (header(4, 4, 1) + b"\0\0\x11", r"byte 6: .*zero bit.*\(refusal 9\)"),
+            (header(4, 3, 2) + one + other, r"byte 7: .*2-3 is not a < b < n = 3 \(refusal 9\)"),
+            (header(4, 4, 2) + other + one, r"byte 7: .*\(refusal 9\)"),
+            (header(4, 4, 2) + one + (1 << 14 | 2 << 4).to_bytes(3, "big"), r"cell 1 stands twice.*\(refusal 10\)"),
+        )
+
+    def test_short_lists(self):
+        self.shown_wrong(
+            (header(2, 4, 0), "4 bytes, but m = 0 makes 12$"),
+            (header(2, 4, 0, 1) + bytes(8), "zero bit of the short list's header is set$"),
+            (header(2, 4, 1) + bytes(8) + (1 << 44).to_bytes(8, "big"), "byte 12: .*0-1 has no points$"),
+            (header(2, 1, 1) + bytes(8) + (1 << 44 | 1).to_bytes(8, "big"), "byte 12: .*not a < b < n = 1$"),
+            (FIRST_SHORT[:12] + FIRST_SHORT[20:28] + FIRST_SHORT[12:20] + FIRST_SHORT[28:], "byte 20: .*entry 2"),
+        )
+
+    def test_any_bytes_are_shown_or_refused(self):
+        rng = random.Random(2)
+        for _ in range(2000):
+            data = bytearray(rng.choice([FIRST_LIST, FIRST_SHORT, FIRST_SLIP, FIRST_PAIRING]))
+            for _ in range(rng.randint(0, 3)):
+                data[rng.randrange(len(data))] ^= 1 << rng.randrange(8)
+            try:
+                cells.show(bytes(data[: rng.choice([len(data)] * 3 + [rng.randint(0, len(data))])]))
+            except cells.Wrong:
+                pass
+
+
+class Drawing(Refusing):
+    def test_list_alone(self):
+        drawing = cells.draw(FIRST_LIST)
+        self.assertTrue(drawing.startswith("graph store {\n") and drawing.endswith("}\n"))
+        self.assertIn('  0 -- 1 [label="10"];\n  1 -- 2 [label="1"];\n', drawing)
+        self.assertNotIn("bold", drawing)
+
+    def test_pairing_file_and_printed_text_draw_the_same(self):
+        drawing = cells.draw(FIRST_LIST, FIRST_PAIRING)
+        self.assertEqual(cells.draw(FIRST_LIST, FIRST_PRINTED.encode()), drawing)
+        self.assertEqual(cells.draw(FIRST_LIST, FIRST_PRINTED.replace("\n", "\r\n").encode()), drawing)
+        self.assertIn('0 -- 1 [label="10", style=bold, penwidth=4];', drawing)
+        self.assertIn('1 -- 2 [label="1"];', drawing)
+        self.assertIn("  3 [style=filled", drawing)
+
+    def test_parts(self):
+        self.assertEqual(cells.edge_text(1, 2, 3, False), '1 -- 2 [label="3"];')
+        self.assertEqual(cells.parse_printed(FIRST_PRINTED), ([(0, 1, 10), (2, 3, 10)], 20))
+        self.assertEqual(cells.parse_printed(""), ([], None))
+        points = {(a, b): value for a, b, value in FIRST_ENTRIES}
+        self.assertEqual(cells.read_pairing(FIRST_PAIRING, 4, points), {(0, 1), (2, 3)})
+        self.assertEqual(cells.pairs_of_file(FIRST_PAIRING, 4), [(0, 1), (2, 3)])
+        cells.check_entries([(0, 1)], points)
+        cells.check_once([(0, 1), (2, 3)])
+        cells.check_printed([(1, 2, 1)], 1, points)
+
+    def test_not_a_store_list(self):
+        self.wrong("is a slip, not a store list", cells.draw, FIRST_SLIP)
+        self.wrong("refusal 4", cells.draw, FIRST_LIST[:-1])
+
+    def test_pairings_that_are_refused(self):
+        five_cells = header(4, 5, 2) + FIRST_PAIRING[4:]
+        no_entry = header(4, 4, 1) + (3 << 4).to_bytes(3, "big")
+        for pairing, pattern in [
+            (five_cells, "n = 5, but the list n = 4"),
+            (no_entry, "0-3 is no entry of the list"),
+            (FIRST_PAIRING[:-1], "refusal 9"),
+            (b"refused 11\n", "line 1: the program refused the list with 11"),
+            (b"steps 2\nhello\n", "line 2: 'hello' is no line"),
+            (b"pair 0 3 10\ntotal 10\n", "0-3 is no entry"),
+            (b"pair 0 1 11\ntotal 11\n", "printed with 11 points, but the list has 10"),
+            (b"pair 0 1 10\npair 1 2 1\ntotal 11\n", "cell 1 stands twice"),
+            (b"pair 0 1 10\ntotal 20\n", "total printed is 20, but the pairs have 10"),
+            (b"pair 0 1 10\n", "no line 'total'"),
+            (b"", "no line 'total'"),
+            (b"\xff\xfe", "byte 0: this is no text"),
+            (FIRST_LIST, "second file is a store list, not a pairing"),
+            (FIRST_SLIP, "no line that the program prints|no text"),
+        ]:
+            with self.subTest(pairing):
+                self.wrong(pattern, cells.draw, FIRST_LIST, pairing)
+
+
+class TheCommand(Refusing):
+    def test_list_and_show(self):
+        self.assertEqual(command(["list"], FIRST_TEXT.encode()), (0, FIRST_LIST, ""))
+        self.assertEqual(command(["list"], b"\xef\xbb\xbf" + FIRST_TEXT.encode())[:2], (0, FIRST_LIST))
+        self.assertEqual(command(["show"], FIRST_LIST)[:2], (0, cells.show(FIRST_LIST).encode()))
+
+    def test_draw(self):
+        with tempfile.TemporaryDirectory() as folder:
+            list_name, printed_name = os.path.join(folder, "first.bin"), os.path.join(folder, "printed.txt")
+            for name, data in [(list_name, FIRST_LIST), (printed_name, FIRST_PRINTED.encode())]:
+                with open(name, "wb") as file:
+                    file.write(data)
+            drawn = command(["draw", list_name, printed_name])
+            self.assertEqual(drawn, (0, cells.draw(FIRST_LIST, FIRST_PAIRING).encode(), ""))
+            self.assertEqual(cells.run(["draw", list_name], None), cells.draw(FIRST_LIST).encode())
+            self.assertEqual(cells.bytes_of(list_name), FIRST_LIST)
+
+    def test_wrong_input_writes_nothing(self):
+        for words, given, pattern in [
+            (["list"], b"0-1:1\n0-0:1\n", "^cells.py: line 2: "),
+            (["list"], b"\xff", "^cells.py: byte 0: "),
+            (["show"], FIRST_LIST[:-1], "refusal 4"),
+            (["draw", os.path.join(HERE, "none.bin")], b"", "No such file"),
+        ]:
+            with self.subTest(words):
+                status, output, messages = command(words, given)
+                self.assertEqual((status, output), (1, b""))
+                self.assertRegex(messages, pattern)
+                self.assertEqual(messages.count("\n"), 1)
+
+    def test_words(self):
+        self.assertIn(b"either way round", cells.run(["--help"], None))
+        for words in ([], ["lists"], ["draw"], ["draw", "a", "b", "c"], ["show", "a"]):
+            self.wrong("^use: ", cells.run, words, None)
+
+
+class Samples(Refusing):
+    def rows(self):
+        """The rows of the table in the samples' README, by name."""
+        table = re.findall(r"^\| `(\S+)` \| (.*) \|$", sample("README.md").decode(), re.MULTILINE)
+        return {name: [cell.strip().replace(",", "") for cell in row.split("|")] for name, row in table}
+
+    def test_all_are_described(self):
+        names = {name.rsplit(".", 1)[0] for name in os.listdir(SAMPLES) if name != "README.md"}
+        self.assertEqual(names, set(self.rows()))
+
+    def test_text_and_binary_agree(self):
+        for name in self.rows():
+            with self.subTest(name):
+                entries = cells.parse_list(sample(name + ".txt").decode())
+                if name == "damaged":
+                    self.assertTrue(cells.store_list(*entries).startswith(sample(name + ".bin")))
+                    self.wrong("refusal 4", cells.show, sample(name + ".bin"))
+                else:
+                    self.assertEqual(cells.store_list(*entries), sample(name + ".bin"))
+                    self.assertEqual(cells.parse_list(cells.show(sample(name + ".bin"))), entries)
+
+    def test_first_is_the_worked_list(self):
+        self.assertEqual(sample("first.bin"), FIRST_LIST)
+
+    def test_cells_and_pairs_in_the_table(self):
+        for name, row in self.rows().items():
+            n, entries = cells.parse_list(sample(name + ".txt").decode())
+            self.assertEqual(row[:2], [str(n), str(len(entries))], name)
+
+    def test_totals_in_the_table(self):
+        for name in ("first", "triangle", "ring-of-four", "workshop"):
+            _, entries = cells.parse_list(sample(name + ".txt").decode())
+            self.assertEqual(self.rows()[name][5], str(heaviest(entries)), name)
+
+    def test_every_list_is_drawn(self):
+        for name in self.rows():
+            if name != "damaged":
+                _, entries = cells.parse_list(sample(name + ".txt").decode())
+                self.assertEqual(cells.draw(sample(name + ".bin")).count(" -- "), len(entries))
+
+
+if __name__ == "__main__":
+    unittest.main()
