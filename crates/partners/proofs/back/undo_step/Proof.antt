@@ -1,12 +1,13 @@
 -- `undo_step` reads the closing word and undoes the step that it names.
 use Rattle.partners.proofs.Closing.{last-some, last-fits, marks-many, leaf-there, ring-there, chain-there}
 use Rattle.partners.proofs.Closing.{none-there, leaf-undone, ring-undone, chain-undone}
+use native.Mathlib.Omega.{arith}
 use borrow.Author.Needs.{needs}
 use Rattle.partners.proofs.back.undo_step.Statement.{statement}
 use Rattle.partners.proofs.back.undo_step.Tie as tie
 
 sub-word : tie.Need-sub-word
-sub-word c = last-some (c .before .before .pre)
+sub-word c = omega (arith, last-some (c .before .before .pre))
 
 mul-word : tie.Need-mul-word
 mul-word c = search needs
