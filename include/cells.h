@@ -3,7 +3,8 @@
  * Conventions of every call: the inputs come first, then the work buffers, then the outputs, each as a pointer
  * and a length; the numbers answered go to the uint64_t pointers at the end. A call returns 0, or the number of
  * the first refusal that holds; on refusal no output and no number is changed. Work buffers are of 64-bit words;
- * whatever their lengths, all their words are zero after every call. Buffers must not overlap.
+ * whatever their lengths, all their words are zero after every call. Buffers must not overlap. cells_entry alone
+ * returns 1 with its numbers, and 0 where there are none.
  */
 #ifndef CELLS_H
 #define CELLS_H
@@ -73,6 +74,15 @@ uint32_t cells_pair(const uint8_t *list, size_t list_len,
                     uint64_t *work_b, size_t work_b_len,
                     uint8_t *pairing, size_t pairing_room,
                     uint64_t *pairing_len);
+
+/* Serves the entry at a place of a store list, the first being at 0: returns 1, and *a, *b and *points are the
+ * entry's cells and points. Returns 0 and changes none of the three where the list is refused (2 to 6) or has no
+ * entry at that place. */
+uint32_t cells_entry(const uint8_t *list, size_t list_len,
+                     uint64_t place,
+                     uint64_t *a,
+                     uint64_t *b,
+                     uint64_t *points);
 
 #ifdef __cplusplus
 }

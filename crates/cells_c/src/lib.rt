@@ -1,9 +1,11 @@
 // The calls for C: include/cells.h declares them. Every slice is a pointer and a length; each call answers 0 or the
-// refusal's number, and on refusal leaves the numbers that it would answer unchanged.
+// refusal's number, and on refusal leaves the numbers that it would answer unchanged. cells_entry answers 1 with them,
+// or 0 and leaves them unchanged.
 use cellfile::Weighed;
 use lifting::Paired;
 use reduction::Reduced;
 use reduction::Replayed;
+use view::Served;
 ghost use mathlib.Core.Path.{_≡_};
 ghost use lib.ListN.{length};
 ghost use Rattle.cellfile.specs.Files.{lent, Cleared};
@@ -11,6 +13,7 @@ ghost use Rattle.cellfile.specs.Weigh.{weighing};
 ghost use Rattle.reduction.specs.Calls.{written, replaying, reducing, replayShort, slipFile, shortFile, reduceSteps};
 ghost use Rattle.lifting.specs.Calls.{solving, solveFile, lifting, liftFile};
 ghost use Rattle.lifting.specs.Calls.{pairing as pairingAnswer, pairingFile};
+ghost use Rattle.view.specs.Serving.{serving};
 ghost use Rattle.cells_c.specs.Numbers.{valueOr};
 
 #[no_mangle]
@@ -188,6 +191,34 @@ pub extern "C" fn cells_pair(
         Paired::Length(m) => {
             *pairing_len = m as u64;
             0
+        }
+    }
+}
+
+#[no_mangle]
+pub extern "C" fn cells_entry(
+    list: &[u8],
+    place: u64,
+    a: &mut u64,
+    b: &mut u64,
+    points: &mut u64,
+) -> u32
+    ensures answer { λ r. ⌜ r ≡ serving (now (list .entry)) place .0 ⌝ }
+    ensures values { λ _. ⌜ (now (a .exit) ≡ valueOr 0 (now (a .entry)) (serving (now (list .entry)) place))
+        × (now (b .exit) ≡ valueOr 1 (now (b .entry)) (serving (now (list .entry)) place))
+        × (now (points .exit) ≡ valueOr 2 (now (points .entry)) (serving (now (list .entry)) place)) ⌝ }
+{
+    match view::entry_of(list, place as usize) {
+        Served::Nothing => 0,
+        Served::Entry {
+            a: x,
+            b: y,
+            points: w,
+        } => {
+            *a = x as u64;
+            *b = y as u64;
+            *points = w;
+            1
         }
     }
 }

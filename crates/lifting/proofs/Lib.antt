@@ -10,3 +10,4 @@ pub mod Solves
 pub mod Returning
 pub mod Lifting
 pub mod Tailing
+pub mod Worked

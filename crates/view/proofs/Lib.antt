@@ -1,0 +1,2 @@
+-- The laws of the view.
+pub mod Serves

@@ -1,0 +1,2 @@
+-- The view of a lent list.
+pub mod Serving

@@ -1,0 +1,72 @@
+// A view that holds a lent list and serves its entries. See specs/Serving.
+use cellfile::decode;
+use cellfile::form;
+use cellfile::form::Checked;
+ghost use mathlib.Core.Path.{_≡_};
+ghost use Rattle.view.specs.Serving.{served, serving, servedAt, shown as shownOf};
+
+// The entry at a place, or nothing.
+pub enum Served {
+    Entry { a: usize, b: usize, points: u64 },
+    Nothing,
+}
+
+// A lent list, and how many entries it shows.
+pub struct View<'a> {
+    pub list: &'a [u8],
+    pub count: usize,
+}
+
+// How many entries the list shows: none where refusals 2 to 6 say no.
+fn shown(list: &[u8]) -> usize
+    ensures { λ r. ⌜ r ≡ shownOf (now (list .entry)) ⌝ }
+{
+    match form::check_list(list) {
+        Checked::Refused(_) => 0,
+        Checked::Accepted { n: _, m } => m,
+    }
+}
+
+// The entry at a place below the count, where the list has its bytes.
+fn served_at(list: &[u8], count: usize, place: usize) -> Served
+    ensures { λ r. ⌜ served r ≡ servedAt (now (list .entry)) count place ⌝ }
+{
+    if count <= place {
+        return Served::Nothing;
+    }
+    if list.len() < 9 {
+        return Served::Nothing;
+    }
+    if (list.len() - 9) / 5 < place {
+        return Served::Nothing;
+    }
+    let at = 4 + 5 * place;
+    let e = decode::entry_at(&list[at..]);
+    Served::Entry {
+        a: e.a,
+        b: e.b,
+        points: e.points,
+    }
+}
+
+// The view of the list.
+pub fn view_of<'a>(list: &'a [u8]) -> View<'a>
+    ensures { λ r. ⌜ (r .list ≡ list .entry) × (r .count ≡ shownOf (now (list .entry))) ⌝ }
+{
+    let count = shown(list);
+    View { list, count }
+}
+
+// The entry at a place of the view.
+pub fn serve<'a>(v: View<'a>, place: usize) -> Served
+    ensures { λ r. ⌜ served r ≡ servedAt (now (v .entry .list)) (v .entry .count) place ⌝ }
+{
+    served_at(v.list, v.count, place)
+}
+
+// The entry at a place of the list, for callers that hold no view.
+pub fn entry_of(list: &[u8], place: usize) -> Served
+    ensures { λ r. ⌜ served r ≡ serving (now (list .entry)) place ⌝ }
+{
+    serve(view_of(list), place)
+}
