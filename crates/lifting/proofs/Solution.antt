@@ -16,9 +16,9 @@ use Rattle.matching.specs.Listed.{filed}
 use Rattle.matching.specs.Pairing.{Heaviest}
 use Rattle.matching.specs.Graph.{Graph, partners, degree}
 use Rattle.matching.specs.Solve.{less, tries, solve}
-use Rattle.matching.proofs.Alls.{Ascends, all-map, all-append, all-mem, all-members, ascends-append}
+use Rattle.matching.proofs.Alls.{Ascends, all-map, all-append, ascends-append}
 use Rattle.matching.proofs.Sums.{each-map}
-use Rattle.matching.proofs.Solve.{less-mem, less-ascends}
+use Rattle.matching.proofs.Solve.{less-all, less-ascends}
 use Rattle.matching.proofs.Filed.{InOrder, filed-filed}
 use Rattle.matching.proofs.Tests.{Test, pass, fail, eqT, ltT}
 use Rattle.matching.proofs.Members.{or-left, or-right, no-mem, mem-head, mem-append}
@@ -39,9 +39,6 @@ tries-keep Q rest w c (p ∷ ps) had h q =
     go : (t : Bool) → Q (cond t ((c, p) ∷ rest p) had)
     go true = h .0
     go false = q
-
-less-all : (P : ℕ → Type 0) (p : ℕ) (cs : List ℕ) → All P cs → All P (less p cs)
-less-all P p cs h = all-map (λ x m. all-mem P cs h x (less-mem p x cs m .0)) (less p cs) (all-members (less p cs))
 
 solve-each : (P : ℕ → Type 0) (k : ℕ) (w : Points) (cs : List ℕ) → All P cs → Each (λ a b. P a × P b) (solve k w cs)
 solve-each P zero w cs h = tt

@@ -28,7 +28,7 @@ abbrev steps : ℕ → ℕ → Points → Option Step → List Step
 steps k n w o = elim o [ none ↦ [] | some s ↦ s ∷ reduce k n (apply w s) ]
 
 -- a step more
-replay-more : (n : ℕ) (w : Points) (r : Rule × ℕ) (s : Step) (rs : List (Rule × ℕ)) (ss : List Step)
+pub replay-more : (n : ℕ) (w : Points) (r : Rule × ℕ) (s : Step) (rs : List (Rule × ℕ)) (ss : List Step)
     → stepAt n w (r .0) (r .1) ≡ some s → replay n (apply w s) rs ≡ some ss → replay n w (r ∷ rs) ≡ some (s ∷ ss)
 replay-more n w r s rs ss h k = rw (h, replay) (rw k)
 

@@ -68,7 +68,7 @@ less-distinct p (c ∷ cs) d = go (eqb c p) (less-distinct p cs (distinct-cons c
     go true i = i
     go false i = rw (none, i)
 
-less-all : (P : ℕ → Type 0) (p : ℕ) (cs : List ℕ) → All P cs → All P (less p cs)
+pub less-all : (P : ℕ → Type 0) (p : ℕ) (cs : List ℕ) → All P cs → All P (less p cs)
 less-all P p [] h = tt
 less-all P p (c ∷ cs) h = go (eqb c p) (less-all P p cs (h .1))
   where

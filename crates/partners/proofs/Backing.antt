@@ -19,7 +19,7 @@ use Rattle.matching.specs.Slip.{replay, left, lift}
 use Rattle.matching.proofs.Find.{step-is, step-fits}
 use Rattle.matching.proofs.Exact.{step-lifted}
 use Rattle.matching.proofs.Course.{left-append}
-use Rattle.matching.proofs.Reduce.{replay-fits}
+use Rattle.matching.proofs.Reduce.{replay-fits, replay-more}
 use Rattle.matching.proofs.Demand.{slip-graph}
 use Rattle.steps.specs.Trail.{stepWords, trail}
 use Rattle.reduction.proofs.Coursing.{trail-append}
@@ -53,10 +53,6 @@ replay-first n w r rs s ss = go (stepAt n w (r .0) (r .1))
             let b : xs ≡ ss = cc in
             (ap some a, subst (λ (y : Step). replay n (apply w y) rs ≡ some ss) a (e ∙ ap some b))
 
-replay-on : (n : ℕ) (w : Points) (r : Rule × ℕ) (rs : List (Rule × ℕ)) (s : Step) (ss : List Step)
-    → stepAt n w (r .0) (r .1) ≡ some s → replay n (apply w s) rs ≡ some ss → replay n w (r ∷ rs) ≡ some (s ∷ ss)
-replay-on n w r rs s ss h k = rw (h, replay) (rw k)
-
 replay-last : (n : ℕ) (w : Points) (ss : List Step) (s : Step)
     → replay n w (map name (ss ++ s ∷ [])) ≡ some (ss ++ s ∷ [])
     → (replay n w (map name ss) ≡ some ss) × (stepAt n (left w ss) (name s .0) (name s .1) ≡ some s)
@@ -64,7 +60,7 @@ replay-last n w [] s h = (refl, replay-first n w (name s) [] s [] h .0)
 replay-last n w (t ∷ ss) s h =
     let f = replay-first n w (name t) (map name (ss ++ s ∷ [])) t (ss ++ s ∷ []) h in
     let i = replay-last n (apply w t) ss s (f .1) in
-    (replay-on n w (name t) (map name ss) t ss (f .0) (i .0), i .1)
+    (replay-more n w (name t) t (map name ss) ss (f .0) (i .0), i .1)
 
 lift-last : (w : Points) (ss : List Step) (s : Step) (m : List Pair)
     → lift w (ss ++ s ∷ []) m ≡ lift w ss (undo (left w ss) s m)

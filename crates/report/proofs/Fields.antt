@@ -2,7 +2,6 @@
 -- of carried points and of entries of the short list; the pairs of the pairing, in order and each an entry of the list,
 -- so that the merge finds them with their points (`pairs-found`). Assumes nothing.
 use mathlib.Core.Path.{_≡_, refl, sym, ap, ap₂, subst, _∙_}
-use mathlib.Core.Logic.{_≢_}
 use mathlib.Core.Bool.{true}
 use mathlib.Core.List.{List, [], _∷_, _++_, map}
 use Prim.Native.Nat.{ℕ, suc, _+_, _*_, _-_, _/_, _%_, _^_, _≤_, _<_}
@@ -10,10 +9,9 @@ use native.Mathlib.Omega.{arith}
 use lib.ListN.{length, drop, length-map}
 use lib.Seq.{drop-append-seam}
 use borrow.Author.Tests.{le-leb}
-use Rattle.matching.specs.Lists.{All}
 use Rattle.matching.specs.Pairs.{Pair, Each}
 use Rattle.matching.specs.Pairing.{Pairing}
-use Rattle.matching.specs.Listed.{Entry, joined, points, shortList, total, filed}
+use Rattle.matching.specs.Listed.{Entry, joined, shortList, filed}
 use Rattle.matching.specs.Graph.{Graph}
 use Rattle.matching.specs.Steps.{Step, name}
 use Rattle.matching.specs.Slip.{carried, lift}
@@ -32,7 +30,7 @@ use Rattle.cellfile.specs.Refusals.{first, listRows, ascendingFrom}
 use Rattle.cellfile.specs.Loops.{entries, pairs}
 use Rattle.cellfile.proofs.Bytes.{number-bytes}
 use Rattle.cellfile.proofs.Fields.{length-write-record, length-read-records}
-use Rattle.cellfile.proofs.Merge.{OrderedEntries, OrderedPairs}
+use Rattle.cellfile.proofs.Merge.{OrderedPairs}
 use Rattle.cellfile.proofs.RoundTrip.{length-file, accepted-entries}
 use Rattle.cellfile.proofs.Rows.{list-none, too-large-none, wrong-length-none}
 use Rattle.reduction.specs.Calls.{graphIn, slipFile, shortFile, nameFields, reduceSteps}
@@ -43,11 +41,11 @@ use Rattle.reduction.proofs.Courses.{list-graph, list-few, left-small, steps-fe
 use Rattle.matching.proofs.Demand.{short-fewer}
 use Rattle.partners.specs.Words.{pairFields}
 use Rattle.partners.proofs.Tabled.{pairing-half}
-use Rattle.lifting.specs.Calls.{graphAfter, solution, pairFile, pairingFile}
+use Rattle.lifting.specs.Calls.{graphAfter, solution, pairingFile}
 use Rattle.lifting.proofs.Claim.{best-left, pairing-read, demand-pair}
 use Rattle.report.specs.Printed.{withPoints}
 use Rattle.report.specs.Writing.{found}
-use Rattle.report.proofs.Found.{Joined, found-is}
+use Rattle.report.proofs.Found.{found-is}
 
 -- ---- pairs in order
 

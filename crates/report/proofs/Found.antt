@@ -1,7 +1,7 @@
 -- The merge of entries and pairs, both ascending, finds each pair with its points, where the entries join every pair
 -- (`found-is`). In order: an entry of another key changes nothing of a pair (`past-one`, `past-all`); the merge; the sum
 -- of the points found (`total-points`). Assumes nothing.
-use mathlib.Core.Path.{_≡_, refl, sym, ap, ap₂, subst, _∙_}
+use mathlib.Core.Path.{_≡_, refl, sym, ap, ap₂, _∙_}
 use mathlib.Core.Logic.{_≢_}
 use mathlib.Core.Bool.{Bool, true, cond}
 use mathlib.Core.List.{List, [], _∷_, map}
@@ -85,7 +85,7 @@ found-is (e ∷ es) (p ∷ ps) low low′ o s q r j =
     met k =
         let y = passes (keyT (e .0) (e .1) (p .0) (p .1) (o .0) (q .0)) (λ n. n k) in
         let v : e .2 ≡ listed (e ∷ es) (p .0) (p .1) =
-            omega (arith, listed-same e es (p .0) (p .1) y, not-joined es p (o .1) (q .0) (above (omega arith)) .1) in
+        omega (arith, listed-same e es (p .0) (p .1) y, not-joined es p (o .1) (q .0) (above (omega arith)) .1) in
         let a : e .0 ≡ p .0 = omega (arith, k, o .0, q .0) in
         let b : e .1 ≡ p .1 = omega (arith, k, o .0, q .0) in
         ap (λ (x : ℕ). (x, e .1, e .2)) a ∙ ap (λ (x : ℕ). (p .0, x, e .2)) b ∙ ap (λ (x : ℕ). (p .0, p .1, x)) v

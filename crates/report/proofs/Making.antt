@@ -1,6 +1,6 @@
 -- The text of an accepted list, from its parts. In order: how long its lines are; the places after each part, with room
 -- for the next (`first-room` and so on); all parts together (`text-made`). Assumes nothing.
-use mathlib.Core.Path.{_≡_, refl, ap, ap₂, subst, _∙_}
+use mathlib.Core.Path.{_≡_, ap, _∙_}
 use mathlib.Core.List.{List, [], _∷_, _++_}
 use Prim.Native.Nat.{ℕ, _+_, _*_, _-_, _/_, _≤_}
 use native.Mathlib.Omega.{arith}

@@ -1,8 +1,8 @@
 -- What is printed, by the answers of reduce and of pair. In order: with buffers and room enough only the list's rows
 -- refuse reduce (`reduce-refuses`, `reduce-passes`), and only refusal 11 pair of an accepted list (`pair-refuses`,
 -- `pair-passes`). Assumes nothing.
-use mathlib.Core.Path.{_≡_, refl, sym, ap, subst, _∙_}
-use mathlib.Core.Bool.{Bool, true, false, cond}
+use mathlib.Core.Path.{_≡_, refl, sym, ap, _∙_}
+use mathlib.Core.Bool.{Bool, false, cond}
 use mathlib.Core.List.{List, [], _∷_, _++_}
 use Prim.Native.Nat.{ℕ, zero, suc, _+_, _≤_, _<_}
 use native.Mathlib.Omega.{arith}
@@ -14,7 +14,7 @@ use Rattle.matching.specs.Graph.{cellsLeft}
 use Rattle.matching.specs.Steps.{Step}
 use Rattle.cellfile.specs.Files.{storeList, cellsOf, onto}
 use Rattle.cellfile.specs.Refusals.{Row, first, fewWords, listRows, crowded, shortOutput}
-use Rattle.cellfile.specs.Answers.{Answer, answer}
+use Rattle.cellfile.specs.Answers.{answer}
 use Rattle.cellfile.proofs.Layers.{answer-refused, answer-accepted, first-refused, first-passed}
 use Rattle.cellfile.proofs.Rows.{list-none}
 use Rattle.reduction.specs.Calls.{slipFile, shortFile, reduceSteps, reducing}
@@ -84,7 +84,7 @@ module _ (list : List ℕ) (a b : ℕ) (room-a : 8192 ≤ a) (room-b : 8192 ≤ 
           go : (i : ℕ) → first (listRows storeList list) ≡ i → line "refused" (k ∷ []) ≡ printed list
           go zero z =
               let y : first (listRows storeList list ++ rows) ≡ 0 =
-                  first-passed (listRows storeList list) rows (list-none storeList list z) ∙ roomy z in
+              first-passed (listRows storeList list) rows (list-none storeList list z) ∙ roomy z in
               absurd (omega (arith, y, r .0))
           go (suc i) z =
               let l : 0 < first (listRows storeList list) = omega (arith, z) in

@@ -10,7 +10,6 @@ use Rattle.matching.specs.Listed.{Entry, total}
 use Rattle.cellfile.specs.Files.{storeList}
 use Rattle.cellfile.specs.Refusals.{first, listRows, key}
 use Rattle.reduction.specs.Calls.{reduceSteps, slipFile, shortFile}
-use Rattle.lifting.specs.Calls.{pairingFile}
 use Rattle.report.specs.Printed.{pairLines}
 use Rattle.report.specs.declared.pairs.Lines.{Lines}
 

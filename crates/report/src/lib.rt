@@ -14,7 +14,13 @@ ghost use Rattle.report.specs.Printed.{made, printed};
 ghost use Rattle.report.specs.Writing.{Made, ReducedThere};
 
 // The fields of an accepted list, from what reduce and pair wrote of it.
-fn print_made(list: &[u8], slip_length: usize, short: &[u8], pairing: &[u8], text: &mut [u8]) -> usize
+fn print_made(
+    list: &[u8],
+    slip_length: usize,
+    short: &[u8],
+    pairing: &[u8],
+    text: &mut [u8],
+) -> usize
     requires { ⌜ ReducedThere (now list) «slip_length» (now short) × (now pairing ≡ pairingFile (now list))
         × (36864 ≤ length (now text)) ⌝ }
     ensures { λ r. ⌜ Made (made (now (list .entry))) (now (text .exit)) r ⌝ }

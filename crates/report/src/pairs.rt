@@ -13,7 +13,14 @@ pub struct Lines {
 }
 
 // The lines of the entries that are pairs of the pairing. Both files ascend, so each is passed once.
-pub fn pair_lines(list: &[u8], m: usize, pairing: &[u8], k: usize, text: &mut [u8], at: usize) -> Lines
+pub fn pair_lines(
+    list: &[u8],
+    m: usize,
+    pairing: &[u8],
+    k: usize,
+    text: &mut [u8],
+    at: usize,
+) -> Lines
     requires { ⌜ (m ≤ 4096) × (4 + 5 * m ≤ length (now list)) × (k ≤ 512) × (4 + 3 * k ≤ length (now pairing))
         × (at + 68 * k ≤ length (now text)) ⌝ }
     ensures { λ r. ⌜ LinesOf (found (entries m (drop 4 (now (list .entry)))) (pairs k (drop 4 (now (pairing .entry)))))

@@ -1,8 +1,7 @@
 -- `pair_lines` passes the list's entries. Invariant: the lines of the entries found before places i and j are written, and
 -- the lines of the whole merge are these and those from places i and j on (`Reached`).
-use Prim.Native.Nat.{ℕ, _+_, _*_, _-_, _≤_}
+use Prim.Native.Nat.{_+_, _*_, _-_, _≤_}
 use mathlib.Core.Path.{_≡_, refl, _∙_}
-use mathlib.Core.List.{List}
 use native.Mathlib.Omega.{arith}
 use lib.ListN.{length, drop}
 use borrow.Author.Needs.{needs}
