@@ -1,10 +1,11 @@
 //! The comparison: every call of the C interface against the independent
 //! implementation, on worked rows and on many random inputs.
 //!
-//!     compare [SEED [CALLS [WRITING CALLS [LIFTING CALLS]]]]
+//!     compare [SEED [CALLS [WRITING CALLS [LIFTING CALLS [ENTRY CALLS]]]]]
 //!
 //! CALLS are those of weigh, WRITING CALLS those of replay and reduce together,
-//! LIFTING CALLS those of solve, lift and pair together.
+//! LIFTING CALLS those of solve, lift and pair together, ENTRY CALLS those of
+//! entry.
 //! Each call is made over lent memory with guards round it. Its number, its
 //! answers, every work word and every byte it was lent are looked at afterwards.
 //! Exit status 1 if anything differs, or if some answer was met too seldom.
@@ -18,6 +19,7 @@ use std::time::Instant;
 
 mod cases;
 mod counts;
+mod entry;
 mod graph;
 mod inputs;
 mod lent;
@@ -38,29 +40,32 @@ mod solve;
 mod weigh;
 mod writing;
 
+use entry::Entries;
 use weigh::Weighing;
 
 const SEED: u64 = 20_180_820;
 const CALLS: u64 = 24_000;
 const WRITING_CALLS: u64 = 20_000;
 const LIFTING_CALLS: u64 = 25_000;
+const ENTRY_CALLS: u64 = 5_000;
 
 // The seed and the numbers of calls, from the arguments where they are given.
-fn arguments() -> Option<(u64, u64, u64, u64)> {
+fn arguments() -> Option<[u64; 5]> {
     let words: Vec<String> = env::args().skip(1).collect();
     let number = |place: usize, usual: u64| match words.get(place) {
         None => Some(usual),
         Some(word) => word.parse().ok(),
     };
-    if words.len() > 4 {
+    if words.len() > 5 {
         return None;
     }
-    Some((
+    Some([
         number(0, SEED)?,
         number(1, CALLS)?,
         number(2, WRITING_CALLS)?,
         number(3, LIFTING_CALLS)?,
-    ))
+        number(4, ENTRY_CALLS)?,
+    ])
 }
 
 // Compares a call that writes files; what was met too seldom.
@@ -71,6 +76,14 @@ fn compare_writing<C: writing::Call>(seed: u64, calls: Range<u64>) -> Vec<String
     comparison.print()
 }
 
+// Compares entry; what was met too seldom.
+fn compare_entry(seed: u64, calls: Range<u64>) -> Vec<String> {
+    let start = Instant::now();
+    let entries = Entries::run(seed, calls.clone());
+    print_time(seed, calls.end - calls.start, start);
+    entries.print()
+}
+
 // Prints how long so many calls took.
 fn print_time(seed: u64, calls: u64, start: Instant) {
     let seconds = start.elapsed().as_secs_f64();
@@ -79,8 +92,8 @@ fn print_time(seed: u64, calls: u64, start: Instant) {
 
 // Runs the comparison and ends with 0, 1 for a difference or too few calls, 2 for bad arguments.
 fn main() {
-    let Some((seed, calls, writing_calls, lifting_calls)) = arguments() else {
-        println!("usage: compare [SEED [CALLS [WRITING CALLS [LIFTING CALLS]]]]");
+    let Some([seed, calls, writing_calls, lifting_calls, entry_calls]) = arguments() else {
+        println!("usage: compare [SEED [CALLS [WRITING CALLS [LIFTING CALLS [ENTRY CALLS]]]]]");
         exit(2);
     };
     let start = Instant::now();
@@ -97,6 +110,7 @@ fn main() {
     short.extend(compare_writing::<solve::Solve>(seed, writing_calls..solved));
     short.extend(compare_writing::<lift::Lift>(seed, solved..lifted));
     short.extend(compare_writing::<pair::Pair>(seed, lifted..end));
+    short.extend(compare_entry(seed, end..end + entry_calls));
     for line in &short {
         println!("{line}");
     }

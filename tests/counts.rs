@@ -5,7 +5,7 @@ use std::collections::BTreeMap;
 use crate::lent::WORK_LENGTHS;
 
 /// How often acceptance, each refusal, each refusal beside each later one, and
-/// each name of a tally must be met at least.
+/// each name of a tally that does not say more must be met at least.
 const FEWEST_ACCEPTED: u64 = 1000;
 const FEWEST_REFUSED: u64 = 100;
 const FEWEST_BESIDE: u64 = 20;
@@ -131,6 +131,7 @@ impl Counts {
 
 /// How often each of some names was met: families of lists, or special cases.
 pub struct Tally {
+    fewest: u64,
     title: &'static str,
     names: Vec<&'static str>,
     counts: BTreeMap<&'static str, u64>,
@@ -139,7 +140,13 @@ pub struct Tally {
 impl Tally {
     /// Nothing met yet of these names.
     pub fn new(title: &'static str, names: &[&'static str]) -> Tally {
+        Tally::at_least(FEWEST_NAMED, title, names)
+    }
+
+    /// Nothing met yet of these names, each of which must be met so often.
+    pub fn at_least(fewest: u64, title: &'static str, names: &[&'static str]) -> Tally {
         Tally {
+            fewest,
             title,
             names: names.to_vec(),
             counts: BTreeMap::new(),
@@ -169,7 +176,7 @@ impl Tally {
     pub fn shortfalls(&self) -> Vec<String> {
         let mut short = Vec::new();
         for name in &self.names {
-            need(&mut short, name, self.met(name), FEWEST_NAMED);
+            need(&mut short, name, self.met(name), self.fewest);
         }
         short
     }

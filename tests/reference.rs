@@ -39,6 +39,8 @@ const LIST_ENTRY_BYTES: u64 = 5;
 const SLIP_STEP_BYTES: u64 = 2;
 const PAIRING_ENTRY_BYTES: u64 = 3;
 const LAST_REFUSAL: u32 = 12;
+/// The refusals of a store list.
+const LIST_REFUSALS: [u32; 5] = [2, 3, 4, 5, 6];
 
 /// Two cells, the lower one first.
 pub type Pair = (u64, u64);
@@ -634,4 +636,26 @@ fn pairing_of(pairing: &Pairing, graph: &BTreeMap<Pair, u64>) -> Held {
         }
     }
     Held::new(pairs)
+}
+
+/// Serves the entry at a place of the list, the first being at 0: cell a, cell b
+/// and points. None if the list does not pass refusals 2 to 6, or if the place
+/// is not below m.
+pub fn entry(list: &[u8], place: u64) -> Option<[u64; 3]> {
+    if !list_refusals(list).is_empty() {
+        return None;
+    }
+    let list = List::read(list);
+    let m = list.header?.m;
+    let mut places = (0..m).zip(list.entries);
+    let (_, entry) = places.find(|&(at, _)| at == place)?;
+    Some([entry.a, entry.b, entry.points])
+}
+
+/// Every refusal of 2 to 6 that holds of a list, each looked at by itself over
+/// what can be read.
+pub fn list_refusals(list: &[u8]) -> Vec<u32> {
+    let input = Input::over(list);
+    let numbers = LIST_REFUSALS.into_iter();
+    numbers.filter(|&number| holds(number, &input)).collect()
 }
