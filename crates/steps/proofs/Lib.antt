@@ -3,6 +3,7 @@ pub mod Walks
 pub mod Turned
 pub mod Ways
 pub mod Rowed
+pub mod Lower
 pub mod Scans
 pub mod Gone
 pub mod Taken

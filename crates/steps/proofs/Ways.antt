@@ -206,6 +206,11 @@ ring-none w z f miss (ring u z′ inner) p m = go u inner (rw (p .0) at (p .1)) 
         turned (inl d) = inr d
         turned (inr l) = inl l
 
+-- the last of some cells is one of them
+pub last-in : (x : ℕ) (xs : List ℕ) → mem (last x xs) (x ∷ xs) ≡ true
+last-in x [] = mem-head x x [] refl
+last-in x (y ∷ ys) = mem-on (last y ys) x (y ∷ ys) (last-in y ys)
+
 pub chain-none : (w : Points) (z f : ℕ)
     → (endOf w z f ≢ z
     → ChainTest w (endOf w z f) (nearEnd w z f) (last (endOf w z f) (backOf w z f .0)) (backOf w z f .1) → ⊥)
@@ -227,10 +232,6 @@ chain-none w z f miss (chain u v z′ inner) p m = go u v inner (rw (p .0) at (p
         ends-apart [] d l q = absurd (omega arith)
         ends-apart (c ∷ []) d l q = absurd (omega arith)
         ends-apart (c ∷ b ∷ cs) d l q = mem-apart c c (b ∷ cs) (rw q (last-in b cs)) (distinct-cons c (b ∷ cs) d .0) refl
-          where
-            last-in : (x : ℕ) (xs : List ℕ) → mem (last x xs) (x ∷ xs) ≡ true
-            last-in x [] = mem-head x x [] refl
-            last-in x (y ∷ ys) = mem-on (last y ys) x (y ∷ ys) (last-in y ys)
 
 -- ---- the tests in the code
 

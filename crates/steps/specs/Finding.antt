@@ -95,6 +95,10 @@ MetBy w f (leaf u v) = u ≡ f
 MetBy w f (ring u z inner) = Met w z f u inner u
 MetBy w f (chain u v z inner) = Met w z f u inner v
 
+-- No step of the rule is named by c.
+abbrev pub Unnamed : Points → Rule → ℕ → Type 0
+Unnamed w r c = (s : Step) → IsStep 1024 w r c s → ⊥
+
 -- A step of the rule at c, or none that is met at f.
 abbrev pub StepBy : Points → Rule → ℕ → ℕ → Option Step → Type 0
 StepBy w r c f none = (s : Step) → IsStep 1024 w r c s → MetBy w f s → ⊥

@@ -11,7 +11,7 @@ ghost use Rattle.matching.specs.Find.{firstStep};
 ghost use Rattle.slots.specs.Slots.{Holds, graphOf, lowOf, highOf, Joins};
 ghost use Rattle.steps.specs.Walks.{stretchAt, Stops};
 ghost use Rattle.steps.specs.Finding.{told, ruleOf, degreeOf, Finds, stepFrom};
-ghost use Rattle.steps.specs.Finding.{Tells, RingTest, ChainTest, FindsBy, FindsAt, Unmet};
+ghost use Rattle.steps.specs.Finding.{Tells, RingTest, ChainTest, FindsBy, FindsAt, Unmet, Unnamed};
 
 // The end of a walk, the cell before it, and the slot of the two.
 pub struct Stop {
@@ -120,12 +120,62 @@ fn is_chain(w1: &[u64], w2: &[u64], e: usize, u: usize, p: usize, before: usize,
     read::degree(w1, w2, e, end) != 2
 }
 
+// Whether lower cells of degree two stand on the row of z, which slot i leaves at f, so that none is named by z: one for a
+// chain; for a ring two, or one and a cell of another degree. Both ways are walked in turns.
+fn lower_cells(w1: &[u64], w2: &[u64], e: usize, rule: u64, z: usize, f: usize, i: usize) -> bool
+    requires { ⌜ (Holds e (now w1) (now w2)) × Joins e (now w1) i z f × (f < 1024) × (z < 1024) × (rule ≢ 1)
+        × (degree 1024 (graphOf e (now w1)) z ≡ 2) ⌝ }
+    ensures { λ r. ⌜ (r ≡ true → Unnamed (graphOf e (now (w1 .entry))) (ruleOf rule) z) ⌝ }
+{
+    let other = read::step_on(w1, w2, e, z, f, i);
+    let mut last = z;
+    let mut at = f;
+    let mut slot = i;
+    let mut next_last = z;
+    let mut next_at = other.partner;
+    let mut next_slot = other.slot;
+    let mut seen = z;
+    let mut left: usize = 2048;
+    while 0 < left {
+        left -= 1;
+        if at == z {
+            return false;
+        }
+        if read::degree(w1, w2, e, at) != 2 {
+            return seen != z;
+        }
+        if at < z {
+            if rule != RING {
+                return true;
+            }
+            if seen != z {
+                if seen != at {
+                    return true;
+                }
+            }
+            seen = at;
+        }
+        let on = read::step_on(w1, w2, e, at, last, slot);
+        let passed = at;
+        last = next_last;
+        at = next_at;
+        slot = next_slot;
+        next_last = passed;
+        next_at = on.partner;
+        next_slot = on.slot;
+    }
+    false
+}
+
 // The ring or the chain at z that is met by slot i at f.
 fn row_by(w1: &[u64], w2: &[u64], e: usize, rule: u64, z: usize, f: usize, i: usize) -> Found
     requires { ⌜ (Holds e (now w1) (now w2)) × Joins e (now w1) i z f × (f < 1024) × (z < 1024) × (rule ≢ 1)
         × (degree 1024 (graphOf e (now w1)) z ≡ 2) ⌝ }
     ensures { λ r. ⌜ FindsBy e (now (w1 .entry)) (ruleOf rule) z f r ⌝ }
 {
+    if lower_cells(w1, w2, e, rule, z, f, i) {
+        return nothing();
+    }
     let a = walk(w1, w2, e, z, f, i, z + 1);
     let u = a.end;
     let first = a.last;
