@@ -120,8 +120,8 @@ fn is_chain(w1: &[u64], w2: &[u64], e: usize, u: usize, p: usize, before: usize,
     read::degree(w1, w2, e, end) != 2
 }
 
-// Whether lower cells of degree two stand on the row of z, which slot i leaves at f, so that none is named by z: one for a
-// chain; for a ring two, or one and a cell of another degree. Both ways are walked in turns.
+// Whether lower cells of degree two stand on the row of z, which slot i leaves at f, so that none is named by z: one for
+// a chain; for a ring two, or one and a cell of another degree. Both ways are walked in turns, until they meet.
 fn lower_cells(w1: &[u64], w2: &[u64], e: usize, rule: u64, z: usize, f: usize, i: usize) -> bool
     requires { ⌜ (Holds e (now w1) (now w2)) × Joins e (now w1) i z f × (f < 1024) × (z < 1024) × (rule ≢ 1)
         × (degree 1024 (graphOf e (now w1)) z ≡ 2) ⌝ }
@@ -138,7 +138,7 @@ fn lower_cells(w1: &[u64], w2: &[u64], e: usize, rule: u64, z: usize, f: usize, 
     let mut left: usize = 2048;
     while 0 < left {
         left -= 1;
-        if at == z {
+        if at == next_last {
             return false;
         }
         if read::degree(w1, w2, e, at) != 2 {
