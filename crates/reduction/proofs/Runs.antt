@@ -1,7 +1,8 @@
 -- The loop of replay and reduce. In order: the names of a slip one by one (`names-here`, `names-out`); the step that
--- comes next, as it is found (`next-scanned`, `next-first`) and named (`name-some`, `name-none`); what holds before step
--- k (`Coursing`, `run-start`), what taking it asks (`run-there`), that it holds again (`run-on`), and how the loop ends
--- (`run-refused`, `run-ends`, `run-out`).
+-- comes next, as it is found (`next-scanned`, `next-first`) and named (`name-some`, `name-none`); what holds before
+-- step k (`Coursing`, `run-start`), what taking it asks (`run-there`), that no leaf is below the bound after it
+-- (`run-quiet`), that the rest holds again (`run-on`), and how the loop ends (`run-refused`, `run-ends`, `run-out`).
+-- Assumes nothing.
 use mathlib.Core.Path.{_≡_, refl, sym, ap, ap₂, subst, _∙_}
 use mathlib.Core.Logic.{inl, inr}
 use mathlib.Core.Bool.{Bool}
@@ -21,7 +22,7 @@ use Rattle.matching.specs.Slip.{replay, left, carried}
 use Rattle.matching.proofs.Tests.{Test, pass, fail, ltT}
 use Rattle.matching.proofs.Fits.{Stands}
 use Rattle.matching.proofs.Find.{step-is, step-below}
-use Rattle.matching.proofs.More.{is-more, step-more}
+use Rattle.matching.proofs.More.{graph-to, is-more, step-more}
 use Rattle.matching.proofs.Tally.{cells-most}
 use Rattle.matching.proofs.Reduce.{replay-fits, slip-count}
 use Rattle.matching.proofs.Demand.{slip-graph}
@@ -34,7 +35,7 @@ use Rattle.cellfile.specs.declared.decode.SlipStep.{SlipStep}
 use Rattle.cellfile.proofs.Walk.{from-start, from-next, from-end}
 use Rattle.slots.specs.Slots.{Holds, graphOf}
 use Rattle.slots.proofs.Holding.{holds-room, holds-aside}
-use Rattle.steps.specs.Finding.{toTell, ruleOf, Finds, stepFrom, stepOf}
+use Rattle.steps.specs.Finding.{toTell, ruleOf, Finds, stepFrom, stepOf, Quiet, Quieted}
 use Rattle.steps.specs.Trail.{stepWords, trail}
 use Rattle.steps.specs.Applying.{StepThere, StepTaken}
 use Rattle.steps.specs.declared.finding.Found.{Found}
@@ -372,6 +373,13 @@ module _ {n : ℕ} {w : Points} (g : Graph n w) (le : n ≤ 1024) (small : Small
             (ap (take k) (names-kept w2 w2′ same (d .aside)) ∙ h .after .names) (name-word s q r)
             ∙ sym (map-snoc nameWord (h .taken) s));
       }
+
+      -- no leaf is below r
+      pub run-quiet : {x : Found} → Finds slots w1 (nextStep n (graphOf slots w1) (namesFrom m slip k)) x → {low r : ℕ}
+          → Quieted (graphOf slots w1) (x .step) low r → Quiet low (graphOf slots w1) → Quiet r (graphOf (t .slots) w1′)
+      run-quiet f {low} {r} z low-quiet =
+          subst (Quiet r) (sym (d .graph))
+          (z s (f .step ∙ ap toTell next) (name s) run-is (graph-to run-graph 1024 le) low-quiet)
 
       pub run-on : Coursing n w m more slip (t .slots) (t .trail) (points + t .carried) (k + 1) w1′ w2″
       run-on = record {

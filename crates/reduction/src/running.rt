@@ -11,7 +11,7 @@ ghost use lib.ListN.{length};
 ghost use Rattle.matching.specs.Graph.{Graph};
 ghost use Rattle.matching.specs.Steps.{Step as DefinedStep};
 ghost use Rattle.slots.specs.Slots.{Holds, graphOf};
-ghost use Rattle.steps.specs.Finding.{told, toTell, Finds};
+ghost use Rattle.steps.specs.Finding.{told, toTell, Finds, Quiet};
 ghost use Rattle.reduction.specs.Running.{RunThere, Runs, namesAt, namesFrom, nextStep, named, toName};
 
 // A refusal, or what stands in the buffers after the steps: the slots in use, the words on the trail, the points carried,
@@ -48,10 +48,19 @@ fn name_of(step: Step) -> Named
     }
 }
 
-// Step k: the one that the slip names, or behind its m steps the one that reduce takes.
-fn next(slip: &[u8], m: usize, k: usize, n: usize, w1: &[u64], w2: &[u64], e: usize) -> Found
+// Step k: the one that the slip names, or behind its m steps the one that reduce takes. No cell below `low` is a leaf.
+fn next(
+    slip: &[u8],
+    m: usize,
+    k: usize,
+    n: usize,
+    w1: &[u64],
+    w2: &[u64],
+    e: usize,
+    low: usize,
+) -> Found
     requires { ⌜ (Holds e (now w1) (now w2)) × (n ≤ 1024) × Graph n (graphOf e (now w1)) × (m < 8192)
-        × (4 + 2 * m ≤ length (now slip)) ⌝ }
+        × (4 + 2 * m ≤ length (now slip)) × Quiet low (graphOf e (now w1)) ⌝ }
     ensures { λ r. ⌜ Finds e (now (w1 .entry)) (nextStep n (graphOf e (now (w1 .entry)))
         (namesFrom m (now (slip .entry)) k)) r ⌝ }
 {
@@ -62,7 +71,7 @@ fn next(slip: &[u8], m: usize, k: usize, n: usize, w1: &[u64], w2: &[u64], e: us
         let cell = t.cell;
         return finding::scan(w1, w2, e, rule, cell, cell + 1);
     }
-    finding::first_step(w1, w2, e, n)
+    finding::first_step(w1, w2, e, n, low)
 }
 
 // Takes the first m steps of the slip, then at most `more` steps as reduce takes them.
@@ -83,8 +92,9 @@ pub fn run(
     let mut trail = 0;
     let mut carried = 0;
     let mut k = 0;
+    let mut low = 0;
     while k < m + more {
-        let x = next(slip, m, k, n, w1, w2, slots);
+        let x = next(slip, m, k, n, w1, w2, slots, low);
         let step = x.step;
         let Named::Step { rule, cell } = name_of(step) else {
             if k < m {
@@ -92,6 +102,8 @@ pub fn run(
             }
             break;
         };
+        let taken = x.step;
+        low = finding::quiet_after(w1, w2, slots, taken, low);
         let t = applying::take_step(w1, w2, slots, trail, x);
         w2[NAMES + k] = rule * RULE_UNIT + cell as u64;
         slots = t.slots;

@@ -9,3 +9,4 @@ pub mod Gone
 pub mod Taken
 pub mod Putting
 pub mod Applied
+pub mod Quiet

@@ -1,6 +1,7 @@
 -- The scan over cells and their slots for the first step of a rule. In order: what a slot shows (`slot-gone`,
 -- `slot-leaf`, `slot-row`); the slots of a cell (`unmet-off`, `unmet-start`, `unmet-on`, `unmet-end`); the cells
--- (`Barren`, `scan-none`, `scan-some`); the first step of all rules (`first-leaf`, `first-ring`, `first-chain`).
+-- (`Barren`, `scan-none`, `scan-some`); a scan that leaves out cells without a leaf (`from-low`); the first step of all
+-- rules (`first-leaf`, `first-ring`, `first-chain`).
 use mathlib.Core.Path.{_≡_, refl, sym, ap, ap₂, subst, _∙_, fun-ext}
 use mathlib.Core.Logic.{_⊎_, inl, inr, _≢_, ⊎-elim}
 use mathlib.Core.Bool.{Bool, true, false, cond}
@@ -20,7 +21,7 @@ use Rattle.matching.proofs.Tests.{Test, pass, fail, eqT, ltT}
 use Rattle.matching.proofs.Members.{clash}
 use Rattle.matching.proofs.Pairs.{Same}
 use Rattle.matching.proofs.Put.{pair-apart}
-use Rattle.matching.proofs.Search.{search-first, search-nothing}
+use Rattle.matching.proofs.Search.{Searched, searched, search-first, search-nothing}
 use Rattle.matching.proofs.Find.{step-found, step-none}
 use Rattle.matching.proofs.More.{first-more}
 use Rattle.cellfile.specs.Answers.{Answer}
@@ -29,7 +30,8 @@ use Rattle.slots.specs.Found.{LastSlot}
 use Rattle.slots.proofs.Graphs.{holds-graph}
 use Rattle.slots.proofs.Holding.{joins-pair, joins-one}
 use Rattle.slots.proofs.Scanning.{joins-turned, joins-some, joins-has}
-use Rattle.steps.specs.Finding.{told, toTell, Finds, degreeOf, stepFrom, StepBy, StepAtSlot, FindsBy, FindsAt, Unmet}
+use Rattle.steps.specs.Finding.{told, toTell, Finds, degreeOf, stepFrom}
+use Rattle.steps.specs.Finding.{StepBy, StepAtSlot, FindsBy, FindsAt, Unmet, Quiet}
 use Rattle.steps.specs.declared.finding.Found.{Found}
 use Rattle.steps.specs.declared.finding.Step as declared
 use Rattle.steps.specs.declared.finding.Step.the-variants as found
@@ -75,7 +77,8 @@ module _ {e : ℕ} {w1 w2 : List ℕ} (h : Holds e w1 w2) where
     finds = record { step = refl; way = joins-turned j };
   }
 
-  joins-same : {i c f f′ : ℕ} → Joins e w1 i c f → Joins e w1 i c f′ → f ≡ f′
+  -- a slot joins a cell with one other
+  pub joins-same : {i c f f′ : ℕ} → Joins e w1 i c f → Joins e w1 i c f′ → f ≡ f′
   joins-same {i} {c} {f} {f′} j k = go (joins-one j k)
     where
       go : Same c f c f′ → f ≡ f′
@@ -208,6 +211,34 @@ from-zero : (e : ℕ) (w1 : List ℕ) (r : Rule) (n : ℕ)
 from-zero e w1 r n =
     ap₂ search (fun-ext (λ i. ap (stepAt 1024 (graphOf e w1) r) (let q : 0 + i ≡ i = omega arith in q)))
     (let q : n - 0 ≡ n = omega arith in q)
+
+-- cells below `low` where nothing is found are left out
+search-from : (at : ℕ → Option Step) (low n : ℕ) → ((j : ℕ) → j < low → at j ≡ none)
+    → search (λ i. at (low + i)) (n - low) ≡ search at n
+search-from at low n nil = go (search later (n - low)) (searched later (n - low))
+  where
+    later : ℕ → Option Step
+    later i = at (low + i)
+
+    below : (k : ℕ) → ((i : ℕ) → i < k - low → later i ≡ none) → (j : ℕ) → j < k → {t : Bool}
+        → Test (j < low) (low ≤ j) t → at j ≡ none
+    below k m j l (pass b) = nil j b
+    below k m j l (fail b) = ap at {x = j} {y = low + (j - low)} (omega arith) ∙ m (j - low) (omega arith)
+
+    go : (o : Option Step) → Searched later (n - low) o → o ≡ search at n
+    go none m = sym (search-nothing at n (λ j l. below n m j l (ltT j low)))
+    go (some s) y =
+        sym (search-first at n (low + y .0) s (omega (arith, y .1)) (y .2)
+        (λ j l. below (low + y .0) (λ i k. y .3 i (omega arith)) j l (ltT j low)))
+
+-- below `low` no cell is a leaf
+pub from-low : {e : ℕ} {w1 w2 : List ℕ} → Holds e w1 w2 → (low n : ℕ) → Quiet low (graphOf e w1) → {x : Found}
+    → Finds e w1 (stepFrom (graphOf e w1) by-leaf low n) x → Finds e w1 (stepFrom (graphOf e w1) by-leaf 0 n) x
+from-low {e} {w1} h low n q {x} =
+    subst (λ (o : Option Step). Finds e w1 o x)
+    (search-from (stepAt 1024 (graphOf e w1) by-leaf) low n
+    (λ j l. step-none (holds-graph h) by-leaf j .1 (λ s p. q j l (step-degree h by-leaf j s p)))
+    ∙ sym (from-zero e w1 by-leaf n))
 
 -- the three searches in their order
 in-order : (e : ℕ) (w1 : List ℕ) (n : ℕ) → Graph n (graphOf e w1) → n ≤ 1024 → firstStep n (graphOf e w1)

@@ -8,8 +8,8 @@ use mathlib.Core.Option.{Option, some, none}
 use Prim.Native.Nat.{ℕ, suc, _+_, _-_, _≤_, _<_}
 use lib.Dec.{eqb}
 use Rattle.matching.specs.Pairs.{Points, touches}
-use Rattle.matching.specs.Graph.{degree}
-use Rattle.matching.specs.Steps.{Rule, by-leaf, by-ring, by-chain, Step, leaf, ring, chain}
+use Rattle.matching.specs.Graph.{Graph, degree}
+use Rattle.matching.specs.Steps.{Rule, by-leaf, by-ring, by-chain, Step, leaf, ring, chain, apply}
 use Rattle.matching.specs.Shapes.{IsStep, first, last}
 use Rattle.matching.specs.Find.{search, stepAt}
 use Rattle.cellfile.specs.Answers.{Answer}
@@ -125,3 +125,21 @@ pub record Unmet (e : ℕ) (w1 : List ℕ) (r : Rule) (c i : ℕ) : Type 0 where
   pub has : (k : ℕ) → i ≡ suc k → touches c (lowOf w1 k) (highOf w1 k) ≡ true
   pub fits : (k : ℕ) → i ≡ suc k → degree 1024 (graphOf e w1) c ≡ degreeOf r
   pub past : (j : ℕ) → i ≤ j → StepAtSlot e w1 r c j none
+
+-- ---- where no leaf is
+
+-- No cell below `low` has degree one.
+abbrev pub Quiet : ℕ → Points → Type 0
+Quiet low w = (c : ℕ) → c < low → degree 1024 w c ≢ 1
+
+-- r is not above `low`, u and any partner of u.
+pub record Near (w : Points) (u low r : ℕ) : Type 0 where
+  pub most : r ≤ low
+  pub cell : r ≤ u
+  pub apart : (c : ℕ) → c < r → w c u ≡ 0
+
+-- No cell below r has degree one after the step, where none below `low` has before it.
+abbrev pub Quieted : Points → declared.Step → ℕ → ℕ → Type 0
+Quieted w x low r =
+    (s : Step) → told x ≡ toTell (some s) → (q : Rule × ℕ) → IsStep 1024 w (q .0) (q .1) s → Graph 1024 w
+    → Quiet low w → Quiet r (apply w s)

@@ -12,6 +12,7 @@ ghost use Rattle.slots.specs.Slots.{Holds, graphOf, lowOf, highOf, Joins};
 ghost use Rattle.steps.specs.Walks.{stretchAt, Stops};
 ghost use Rattle.steps.specs.Finding.{told, ruleOf, degreeOf, Finds, stepFrom};
 ghost use Rattle.steps.specs.Finding.{Tells, RingTest, ChainTest, FindsBy, FindsAt, Unmet, Unnamed};
+ghost use Rattle.steps.specs.Finding.{Quiet, Quieted, Near};
 
 // The end of a walk, the cell before it, and the slot of the two.
 pub struct Stop {
@@ -275,12 +276,14 @@ pub fn scan(w1: &[u64], w2: &[u64], e: usize, rule: u64, from: usize, to: usize)
     found
 }
 
-// The step that reduce takes: a leaf at the lowest cell; without one a ring; without one a chain.
-pub fn first_step(w1: &[u64], w2: &[u64], e: usize, n: usize) -> Found
-    requires { ⌜ (Holds e (now w1) (now w2)) × (n ≤ 1024) × Graph n (graphOf e (now w1)) ⌝ }
+// The step that reduce takes: a leaf at the lowest cell; without one a ring; without one a chain. No cell below `low` is a
+// leaf.
+pub fn first_step(w1: &[u64], w2: &[u64], e: usize, n: usize, low: usize) -> Found
+    requires { ⌜ (Holds e (now w1) (now w2)) × (n ≤ 1024) × Graph n (graphOf e (now w1))
+        × Quiet low (graphOf e (now w1)) ⌝ }
     ensures { λ r. ⌜ Finds e (now (w1 .entry)) (firstStep n (graphOf e (now (w1 .entry)))) r ⌝ }
 {
-    let leaf = scan(w1, w2, e, LEAF, 0, n);
+    let leaf = scan(w1, w2, e, LEAF, low, n);
     let step = leaf.step;
     match step {
         Step::None => {}
@@ -297,4 +300,56 @@ pub fn first_step(w1: &[u64], w2: &[u64], e: usize, n: usize) -> Found
         }
     }
     scan(w1, w2, e, CHAIN, 0, n)
+}
+
+fn lower(a: usize, b: usize) -> usize
+    ensures { λ r. ⌜ (r ≤ a) × (r ≤ b) ⌝ }
+{
+    if a < b {
+        return a;
+    }
+    b
+}
+
+// How many slots of a cell are looked at for its lowest partner.
+const LOOKED_AT: usize = 16;
+
+// A number not above `low`, u and any partner of u; 0 where u has many slots.
+fn lowest_near(w1: &[u64], w2: &[u64], e: usize, u: usize, low: usize) -> usize
+    requires { ⌜ (Holds e (now w1) (now w2)) × (u < 1024) ⌝ }
+    ensures { λ r. ⌜ Near (graphOf e (now (w1 .entry))) u low r ⌝ }
+{
+    let mut least = lower(low, u);
+    let mut left = LOOKED_AT;
+    let mut i = read::last_slot(w1, w2, e, u);
+    while 0 < i {
+        if left == 0 {
+            return 0;
+        }
+        left -= 1;
+        i -= 1;
+        if w1[i] != 0 {
+            least = lower(least, read::partner(w1, w2, e, u, i));
+        }
+        i = read::slot_before(w1, w2, e, u, i);
+    }
+    least
+}
+
+// Below this cell no leaf is left by a step, where there was none below `low` before it.
+pub fn quiet_after(w1: &[u64], w2: &[u64], e: usize, step: Step, low: usize) -> usize
+    requires { ⌜ Holds e (now w1) (now w2) ⌝ }
+    ensures { λ r. ⌜ Quieted (graphOf e (now (w1 .entry))) step low r ⌝ }
+{
+    match step {
+        Step::Leaf { v, u } => {
+            if 1024 <= u {
+                return 0;
+            }
+            lowest_near(w1, w2, e, u, lower(low, v))
+        }
+        Step::Ring { u, z } => lower(low, lower(u, z)),
+        Step::Chain { u, v: _, z } => lower(low, lower(u, z)),
+        Step::None => low,
+    }
 }

@@ -1,27 +1,30 @@
--- `run` takes step after step. Invariant: allowed steps were taken, and the rest of the course goes on from there.
-use mathlib.Core.Path.{_≡_, refl, sym, ap, _∙_}
+-- `run` takes step after step. Invariant: allowed steps were taken, the rest of the course goes on from there, and no
+-- cell below `low` is a leaf.
+use mathlib.Core.Path.{_≡_, refl, _∙_}
 use mathlib.Core.Option.{Option, some}
-use Prim.Native.Nat.{_+_, _-_}
+use Prim.Native.Nat.{_+_, _-_, _≤_, _<_}
 use native.Mathlib.Omega.{arith}
 use lib.ListN.{length}
 use borrow.Author.Needs.{needs}
 use Rattle.matching.specs.Steps.{Step, name}
 use Rattle.slots.specs.Slots.{graphOf}
 use Rattle.slots.proofs.Holding.{holds-room}
+use Rattle.steps.specs.Finding.{Quiet}
 use Rattle.reduction.specs.Calls.{numberOf}
 use Rattle.reduction.specs.Running.{namesFrom, nextStep, named, toName}
-use Rattle.reduction.proofs.Runs.{Coursing, run-start, run-graph, run-name, run-few, run-there, run-step, run-on, run-length}
-use Rattle.reduction.proofs.Runs.{run-carries, run-refused, run-ends, run-out, found-name, found-none}
+use Rattle.reduction.proofs.Runs.{Coursing, run-start, run-graph, run-name, run-few, run-there, run-step, run-on}
+use Rattle.reduction.proofs.Runs.{run-length, run-carries, run-quiet, run-refused, run-ends, run-out}
+use Rattle.reduction.proofs.Runs.{found-name, found-none}
 use Rattle.reduction.proofs.running.run.Statement.{statement}
 use Rattle.reduction.proofs.running.run.Tie as tie
 
 abbrev Inv-loop : tie.InvT-loop
-Inv-loop slip m more n w1₀ w2₀ e slots₀ trail₀ carried₀ k₀ w1 w2 slots trail carried k =
+Inv-loop slip m more n w1₀ w2₀ e slots₀ trail₀ carried₀ k₀ low₀ w1 w2 slots trail carried k low =
     (length w1 ≡ length w1₀) × (length w2 ≡ length w2₀)
-    × Coursing n (graphOf e w1₀) m more slip slots trail carried k w1 w2
+    × Coursing n (graphOf e w1₀) m more slip slots trail carried k w1 w2 × Quiet low (graphOf slots w1)
 
 abbrev μ-loop : tie.MeasureT-loop
-μ-loop slip m more n w1₀ w2₀ e slots₀ trail₀ carried₀ k₀ w1 w2 slots trail carried k = m + more - k
+μ-loop slip m more n w1₀ w2₀ e slots₀ trail₀ carried₀ k₀ low₀ w1 w2 slots trail carried k low = m + more - k
 
 -- the step that comes next; its name
 abbrev following : tie.After-name-of Inv-loop μ-loop → Option Step
@@ -35,11 +38,37 @@ the-name g = g .name-of .ensures (following g) (g .before .next .ensures .step)
 
 the-step : (g : tie.After-known-told Inv-loop μ-loop)
     → let r = g .before .rule .given .0 in
-    (s : Step) × (following (g .before .before .before) ≡ some s) × (r .0 ≡ numberOf (name s .0)) × (r .1 .0 ≡ name s .1)
-the-step g = found-name (following (g .before .before .before)) (the-name (g .before .before .before)) (g .before .rule .given .1)
+    (s : Step) × (following (g .before .before .before) ≡ some s) × (r .0 ≡ numberOf (name s .0))
+    × (r .1 .0 ≡ name s .1)
+the-step g =
+    let f = g .before .before .before in
+    found-name (following f) (the-name f) (g .before .rule .given .1)
+
+-- it is below 1,024, and its name fits a word
+the-few : (g : tie.After-known-told Inv-loop μ-loop)
+    → g .before .before .before .before .before .before .before .before .loop .k < 1024
+the-few g =
+    let p = g .before .before .before .before .before .before .before .before .before .before .before .before .pre .0 in
+    let x = the-step g in
+    let h = g .before .before .before .before .before .before .before .before .loop .inv .2 in
+    run-few (p .graph) (p .cells) (p .small) h (x .0) (x .1)
+
+the-fit : (g : tie.After-known-told Inv-loop μ-loop)
+    → let r = g .before .rule .given .0 in
+    (r .0 ≤ 3) × (r .1 .0 < 1024)
+the-fit g =
+    let p = g .before .before .before .before .before .before .before .before .before .before .before .before .pre .0 in
+    let x = the-step g in
+    let h = g .before .before .before .before .before .before .before .before .loop .inv .2 in
+    run-name (p .graph) (p .cells) (p .small) h (x .0) (x .1) (x .2) (x .3)
 
 loop-holds : tie.Need-loop-holds Inv-loop μ-loop
-loop-holds c = (refl, refl, run-start (c .before .before .before .args .more) (c .before .before .before .pre .0))
+loop-holds c = (
+  refl,
+  refl,
+  run-start (c .before .before .before .args .more) (c .before .before .before .pre .0),
+  λ x l. absurd (omega arith),
+)
 
 add-loop : tie.Need-add-loop Inv-loop μ-loop
 add-loop c = let p = c .before .before .before .before .pre in omega (arith, p .0 .count, p .1)
@@ -47,8 +76,8 @@ add-loop c = let p = c .before .before .before .before .pre in omega (arith, p .
 next-requires : tie.Need-next-requires Inv-loop μ-loop
 next-requires c κs =
     let p = c .before .before .before .before .before .before .before .pre .0 in
-    let h = c .before .before .before .loop .inv .2 in
-    (h .after .holds, p .cells, run-graph (p .graph) (p .cells) (p .small) h, p .count, p .slip-room)
+    let l = c .before .before .before .loop .inv in
+    (l .2 .after .holds, p .cells, run-graph (p .graph) (p .cells) (p .small) (l .2), p .count, p .slip-room, l .3)
 
 name-of-requires : tie.Need-name-of-requires Inv-loop μ-loop
 name-of-requires c κs = search needs
@@ -69,81 +98,79 @@ returns : tie.Need-returns Inv-loop μ-loop
 returns c =
     let p = c .before .before .before .before .before .before .before .before .before .before .before .before .pre .0 in
     let h = c .before .before .before .before .before .before .before .before .loop .inv .2 in
-    let o = found-none (following (c .before .before .before)) (the-name (c .before .before .before)) (c .before .enum-told .given .1) in
+    let f = c .before .before .before in
+    let o = found-none (following f) (the-name f) (c .before .enum-told .given .1) in
     (refl, run-refused (p .graph) (p .cells) (p .small) h o (c .if1 .taken))
+
+quiet-after-requires : tie.Need-quiet-after-requires Inv-loop μ-loop
+quiet-after-requires c κs =
+    let l = c .before .before .before .before .before .before .before .before .before .before .loop in
+    l .inv .2 .after .holds
 
 take-step-requires : tie.Need-take-step-requires Inv-loop μ-loop
 take-step-requires c κs =
-    let p = c .before .before .before .before .before .before .before .before .before .before .before .before .before .before .pre .0 in
-    let x = the-step (c .before .before) in
-    run-there (p .graph) (p .cells) (p .small) (c .before .before .before .before .before .before .before .before .before .before .loop .inv .2) (x .0) (x .1) (c .before .before .before .before .before .before .next .ensures)
+    let g = c .before .before .before .before .before in
+    let p = g .before .before .before .before .before .before .before .before .before .before .before .before .pre .0 in
+    let x = the-step g in
+    let h = g .before .before .before .before .before .before .before .before .loop .inv .2 in
+    run-there (p .graph) (p .cells) (p .small) h (x .0) (x .1) (g .before .before .before .before .next .ensures)
 
 mul-w2 : tie.Need-mul-w2 Inv-loop μ-loop
-mul-w2 c =
-    let p = c .before .before .before .before .before .before .before .before .before .before .before .before .before .before .before .before .before .before .before .pre .0 in
-    let x = the-step (c .before .before .before .before .before .before .before) in
-    let h = c .before .before .before .before .before .before .before .before .before .before .before .before .before .before .before .loop .inv .2 in
-    omega (arith, run-name (p .graph) (p .cells) (p .small) h (x .0) (x .1) (x .2) (x .3))
+mul-w2 c = omega (arith, the-fit (c .before .before .before .before .before .before .before .before .before .before))
 
 add-w2 : tie.Need-add-w2 Inv-loop μ-loop
-add-w2 c =
-    let p = c .before .before .before .before .before .before .before .before .before .before .before .before .before .before .before .before .before .before .before .pre .0 in
-    let x = the-step (c .before .before .before .before .before .before .before) in
-    let h = c .before .before .before .before .before .before .before .before .before .before .before .before .before .before .before .loop .inv .2 in
-    omega (arith, run-name (p .graph) (p .cells) (p .small) h (x .0) (x .1) (x .2) (x .3))
+add-w2 c = omega (arith, the-fit (c .before .before .before .before .before .before .before .before .before .before))
 
 add-w2-2 : tie.Need-add-w2-2 Inv-loop μ-loop
-add-w2-2 c =
-    let p = c .before .before .before .before .before .before .before .before .before .before .before .before .before .before .before .before .before .before .before .pre .0 in
-    let x = the-step (c .before .before .before .before .before .before .before) in
-    let h = c .before .before .before .before .before .before .before .before .before .before .before .before .before .before .before .loop .inv .2 in
-    omega (arith, run-few (p .graph) (p .cells) (p .small) h (x .0) (x .1))
+add-w2-2 c = omega (arith, the-few (c .before .before .before .before .before .before .before .before .before .before))
 
 mul-w2-2 : tie.Need-mul-w2-2 Inv-loop μ-loop
-mul-w2-2 c =
-    let p = c .before .before .before .before .before .before .before .before .before .before .before .before .before .before .before .before .before .before .before .pre .0 in
-    let x = the-step (c .before .before .before .before .before .before .before) in
-    let h = c .before .before .before .before .before .before .before .before .before .before .before .before .before .before .before .loop .inv .2 in
-    omega (arith, run-few (p .graph) (p .cells) (p .small) h (x .0) (x .1))
+mul-w2-2 c = omega (arith, the-few (c .before .before .before .before .before .before .before .before .before .before))
 
 slice-write-w2 : tie.Need-slice-write-w2 Inv-loop μ-loop
 slice-write-w2 c =
-    let p = c .before .before .before .before .before .before .before .before .before .before .before .before .before .before .before .before .before .before .before .pre .0 in
-    let x = the-step (c .before .before .before .before .before .before .before) in
-    let h = c .before .before .before .before .before .before .before .before .before .before .before .before .before .before .before .loop .inv .2 in
-    let few = run-few (p .graph) (p .cells) (p .small) h (x .0) (x .1) in
-    omega (arith, few, holds-room (h .after .holds), c .before .before .before .before .take-step .kept .1 .0)
+    let g = c .before .before .before .before .before .before .before .before .before .before in
+    let h = g .before .before .before .before .before .before .before .before .loop .inv .2 in
+    omega (arith, the-few g, holds-room (h .after .holds), c .before .before .before .before .take-step .kept .1 .0)
 
 add-carried : tie.Need-add-carried Inv-loop μ-loop
 add-carried c =
-    let p = c .before .before .before .before .before .before .before .before .before .before .before .before .before .before .before .before .before .before .before .before .pre .0 in
-    let x = the-step (c .before .before .before .before .before .before .before .before) in
-    let h = c .before .before .before .before .before .before .before .before .before .before .before .before .before .before .before .before .loop .inv .2 in
-    let d = c .before .before .before .before .before .take-step .ensures (x .0) (run-step (p .graph) (p .cells) (p .small) h (x .0) (x .1) (c .before .before .before .before .before .before .before .before .before .before .before .before .next .ensures)) in
+    let g = c .before .before .before .before .before .before .before .before .before .before .before in
+    let p = g .before .before .before .before .before .before .before .before .before .before .before .before .pre .0 in
+    let x = the-step g in
+    let h = g .before .before .before .before .before .before .before .before .loop .inv .2 in
+    let f = g .before .before .before .before .next .ensures in
+    let t = run-step (p .graph) (p .cells) (p .small) h (x .0) (x .1) f in
+    let d = c .before .before .before .before .before .take-step .ensures (x .0) t in
     let q = run-carries (p .graph) (p .cells) (p .small) h (x .0) (x .1) in
     omega (arith, d .carried, q)
 
 add-k : tie.Need-add-k Inv-loop μ-loop
 add-k c =
-    let p = c .before .before .before .before .before .before .before .before .before .before .before .before .before .before .before .before .before .before .before .before .pre .0 in
-    let x = the-step (c .before .before .before .before .before .before .before .before) in
-    let h = c .before .before .before .before .before .before .before .before .before .before .before .before .before .before .before .before .loop .inv .2 in
-    omega (arith, run-few (p .graph) (p .cells) (p .small) h (x .0) (x .1))
+    let g = c .before .before .before .before .before .before .before .before .before .before .before in
+    omega (arith, the-few g)
 
 loop-less : tie.Need-loop-less Inv-loop μ-loop
-loop-less c = omega (arith, c .before .before .before .before .before .before .before .before .before .before .before .before .before .before .before .loop-test .taken)
+loop-less c =
+    let g = c .before .before .before .before .before .before .before .before .before .before .before in
+    omega (arith, g .before .before .before .before .before .before .before .loop-test .taken)
 
 loop-again : tie.Need-loop-again Inv-loop μ-loop
 loop-again c =
-    let p = c .before .before .before .before .before .before .before .before .before .before .before .before .before .before .before .before .before .before .before .before .pre .0 in
-    let x = the-step (c .before .before .before .before .before .before .before .before) in
-    let h = c .before .before .before .before .before .before .before .before .before .before .before .before .before .before .before .before .loop .inv .2 in
-    let l = c .before .before .before .before .before .before .before .before .before .before .before .before .before .before .before .before .loop in
-    let d = c .before .before .before .before .before .take-step .ensures (x .0) (run-step (p .graph) (p .cells) (p .small) h (x .0) (x .1) (c .before .before .before .before .before .before .before .before .before .before .before .before .next .ensures)) in
-    let k = c .before .before .before .before .before .take-step .kept in (
-      k .0 ∙ l .inv .0,
-      run-length (p .graph) (p .cells) (p .small) h (x .0) (x .1) d (k .1 .0) (x .2) (x .3) (c .before .before .before .before .before .before .before .before .before .before .before .before .before .before .before .loop-test .taken) ∙ l .inv .1,
-      run-on (p .graph) (p .cells) (p .small) h (x .0) (x .1) d (k .1 .0) (x .2) (x .3) (c .before .before .before .before .before .before .before .before .before .before .before .before .before .before .before .loop-test .taken),
+    let g = c .before .before .before .before .before .before .before .before .before .before .before in
+    let p = g .before .before .before .before .before .before .before .before .before .before .before .before .pre .0 in
+    let x = the-step g in
+    let l = g .before .before .before .before .before .before .before .before .loop in
+    let h = l .inv .2 in
+    let f = g .before .before .before .before .next .ensures in
+    let u = c .before .before .before .before .before .take-step in
+    let d = u .ensures (x .0) (run-step (p .graph) (p .cells) (p .small) h (x .0) (x .1) f) in
+    let t = g .before .before .before .before .before .before .before .loop-test .taken in (
+      u .kept .0 ∙ l .inv .0,
+      run-length (p .graph) (p .cells) (p .small) h (x .0) (x .1) d (u .kept .1 .0) (x .2) (x .3) t ∙ l .inv .1,
+      run-on (p .graph) (p .cells) (p .small) h (x .0) (x .1) d (u .kept .1 .0) (x .2) (x .3) t,
+      run-quiet (p .graph) (p .cells) (p .small) h (x .0) (x .1) d (u .kept .1 .0) (x .2) (x .3) t f
+          (c .before .before .before .before .before .before .before .before .quiet-after .ensures) (l .inv .3),
     )
 
 same-length-3 : tie.Need-same-length-3 Inv-loop μ-loop
@@ -168,7 +195,8 @@ returns-3 : tie.Need-returns-3 Inv-loop μ-loop
 returns-3 c =
     let p = c .before .before .before .before .before .before .before .before .before .before .before .before .pre .0 in
     let h = c .before .before .before .before .before .before .before .before .loop .inv .2 in
-    let o = found-none (following (c .before .before .before)) (the-name (c .before .before .before)) (c .before .enum-told .given .1) in
+    let f = c .before .before .before in
+    let o = found-none (following f) (the-name f) (c .before .enum-told .given .1) in
     run-ends (p .graph) (p .cells) (p .small) h o (omega (arith, c .if1 .left))
 
 pub run-spec : {M : Type 1} → statement M
@@ -186,6 +214,7 @@ run-spec =
     same-length
     same-length-2
     returns
+    quiet-after-requires
     take-step-requires
     mul-w2
     add-w2

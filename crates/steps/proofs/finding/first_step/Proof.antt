@@ -1,6 +1,6 @@
--- `first_step` scans rule by rule.
+-- `first_step` scans rule by rule; for leaves it leaves out the cells below `low`.
 use borrow.Author.Needs.{needs}
-use Rattle.steps.proofs.Scans.{first-leaf, first-ring, first-chain}
+use Rattle.steps.proofs.Scans.{from-low, first-leaf, first-ring, first-chain}
 use Rattle.steps.proofs.finding.first_step.Statement.{statement}
 use Rattle.steps.proofs.finding.first_step.Tie as tie
 
@@ -13,8 +13,8 @@ enum-told c = search needs
 returns : tie.Need-returns
 returns c =
     let s = c .before .before .before .before in
-    first-leaf (s .args .e) (s .args .w1 .now) (s .args .n) (s .pre .2) (s .pre .1) (c .before .scan .ensures)
-    (c .match .keys2)
+    first-leaf (s .args .e) (s .args .w1 .now) (s .args .n) (s .pre .2) (s .pre .1)
+    (from-low (s .pre .0) (s .args .low) (s .args .n) (s .pre .3) (c .before .scan .ensures)) (c .match .keys2)
 
 scan-requires-2 : tie.Need-scan-requires-2
 scan-requires-2 c κs = search needs
@@ -25,7 +25,9 @@ enum-told-2 c = search needs
 returns-2 : tie.Need-returns-2
 returns-2 c =
     let s = c .before .before .before .before .before .before .before in
-    first-ring (s .args .e) (s .args .w1 .now) (s .args .n) (s .pre .2) (s .pre .1) (c .before .before .before .before .scan .ensures)
+    let leaves = c .before .before .before .before .scan .ensures in
+    first-ring (s .args .e) (s .args .w1 .now) (s .args .n) (s .pre .2) (s .pre .1)
+    (from-low (s .pre .0) (s .args .low) (s .args .n) (s .pre .3) leaves)
     (c .before .before .enum-told .given .1) (c .before .scan2 .ensures) (c .match2 .keys2)
 
 scan-requires-3 : tie.Need-scan-requires-3
@@ -34,8 +36,11 @@ scan-requires-3 c κs = search needs
 returns-3 : tie.Need-returns-3
 returns-3 c =
     let s = c .before .before .before .before .before .before .before .before .before in
-    first-chain (s .args .e) (s .args .w1 .now) (s .args .n) (s .pre .2) (s .pre .1) (c .before .before .before .before .before .before .scan .ensures)
-    (c .before .before .before .before .enum-told .given .1) (c .before .before .before .scan2 .ensures) (c .before .enum-told2 .given .1) (c .scan3 .ensures)
+    let leaves = c .before .before .before .before .before .before .scan .ensures in
+    first-chain (s .args .e) (s .args .w1 .now) (s .args .n) (s .pre .2) (s .pre .1)
+    (from-low (s .pre .0) (s .args .low) (s .args .n) (s .pre .3) leaves)
+    (c .before .before .before .before .enum-told .given .1) (c .before .before .before .scan2 .ensures)
+    (c .before .enum-told2 .given .1) (c .scan3 .ensures)
 
 pub first-step-spec : {M : Type 1} → statement M
 first-step-spec =
