@@ -1,5 +1,7 @@
 -- `print_in` prints what reduce refuses, or what `print_paired` prints.
 use mathlib.Core.Path.{_≡_, sym, ap, _∙_}
+use mathlib.Core.List.{List}
+use Prim.Native.Nat.{ℕ}
 use native.Mathlib.Omega.{arith}
 use lib.ListN.{length}
 use lib.Seq.{length-take-le}
@@ -15,11 +17,16 @@ use Rattle.report.proofs.Printing.{written-start, reduce-refuses, reduc
 use Rattle.report.proofs.print_in.Statement.{statement}
 use Rattle.report.proofs.print_in.Tie as tie
 
--- what reduce answered where it gave lengths
+-- the list, and what reduce answered of it where it gave lengths
+abbrev list : tie.After-s → List ℕ
+list c =
+    let at = c .before .before .before .before .before .before .before .before .before .before in
+    at .before .before .before .before .before .before .before .before .before .before .before .before .args .list .now
+
 passes : (c : tie.After-s)
-    → (first (listRows storeList (c .before .before .before .before .before .before .before .before .before .before .before .before .before .before .before .before .before .before .before .before .before .before .args .list .now)) ≡ 0)
-    × (c .s .given .0 .0 ≡ length (slipFile (c .before .before .before .before .before .before .before .before .before .before .before .before .before .before .before .before .before .before .before .before .before .before .args .list .now) (reduceSteps (c .before .before .before .before .before .before .before .before .before .before .before .before .before .before .before .before .before .before .before .before .before .before .args .list .now))))
-    × (c .s .given .0 .1 .0 ≡ length (shortFile (c .before .before .before .before .before .before .before .before .before .before .before .before .before .before .before .before .before .before .before .before .before .before .args .list .now) (reduceSteps (c .before .before .before .before .before .before .before .before .before .before .before .before .before .before .before .before .before .before .before .before .before .before .args .list .now))))
+    → (first (listRows storeList (list c)) ≡ 0)
+    × (c .s .given .0 .0 ≡ length (slipFile (list c) (reduceSteps (list c))))
+    × (c .s .given .0 .1 .0 ≡ length (shortFile (list c) (reduceSteps (list c))))
 passes c =
     let at = c .before .before .before .before .before .before .before .before .before .before in
     let a = at .before .before .before .before .before .before .before .before .before .before .before .before .args in
@@ -47,14 +54,10 @@ enum-known-s c = search needs
 
 slice-reshare-prefix-print-paired : tie.Need-slice-reshare-prefix-print-paired
 slice-reshare-prefix-print-paired c =
-    let p = passes (c .before .before .before) in
-    omega (
-      arith,
-      p .2,
-      short-most (c .before .before .before .before .before .before .before .before .before .before .before .before .before .before .before .before .before .before .before .before .before .before .before .before .before .args .list .now) (p .0),
-      c .before .before .before .before .before .before .before .before .before .before .before .before .before .reduce .kept .1 .1 .1 .1 .0,
-      c .before .before .before .before .before .before .before .before .before .before .before .before .before .before .before .before .before .before .before .before .before .before .before .before .before .pre .3,
-    )
+    let at-s = c .before .before .before in
+    let at = at-s .before .before .before .before .before .before .before .before .before .before in
+    let p = passes at-s in
+    omega (arith, p .2, short-most (list at-s) (p .0), at .reduce .kept .1 .1 .1 .1 .0, at .before .before .before .before .before .before .before .before .before .before .before .before .pre .3)
 
 slice-aggregate-print-paired : tie.Need-slice-aggregate-print-paired
 slice-aggregate-print-paired c =

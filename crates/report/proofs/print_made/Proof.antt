@@ -28,7 +28,8 @@ second-end c = line-ends (ascii "carried") (c .before .before .before .before .b
 
 third-end : (c : tie.After-line3) → c .line3 .result ≤ c .before .before .before .before .before .line2 .result + 29
 third-end c =
-    line-ends (ascii "short") ((length (c .before .before .before .before .before .before .before .before .before .before .before .before .before .before .before .before .before .before .before .before .args .short .now) - 12) / 8) (omega arith) (c .line3 .ensures)
+    let one = c .before .before .before .before .before .before .before .before .before .before in
+    line-ends (ascii "short") ((length (one .before .before .before .before .before .before .before .before .before .before .args .short .now) - 12) / 8) (omega arith) (c .line3 .ensures)
 
 header-at-requires : tie.Need-header-at-requires
 header-at-requires c κs = search needs

@@ -1,5 +1,7 @@
 -- `print_paired` prints refusal 11, or the fields of the list.
 use mathlib.Core.Path.{_≡_, sym, ap, _∙_}
+use mathlib.Core.List.{List}
+use Prim.Native.Nat.{ℕ}
 use native.Mathlib.Omega.{arith}
 use lib.ListN.{length}
 use lib.Seq.{length-take-le}
@@ -14,10 +16,14 @@ use Rattle.report.proofs.Printing.{written-start, pair-refuses, pair-pa
 use Rattle.report.proofs.print_paired.Statement.{statement}
 use Rattle.report.proofs.print_paired.Tie as tie
 
--- what pair answered where it gave a length
+-- the list, and what pair answered of it where it gave a length
+abbrev list : tie.After-k2 → List ℕ
+list c =
+    let at = c .before .before .before .before .before .before .before .before in
+    at .before .before .before .before .before .before .before .before .before .before .args .list .now
+
 passes : (c : tie.After-k2)
-    → (c .k2 .given .0 .0 ≡ length (pairingFile (c .before .before .before .before .before .before .before .before .before .before .before .before .before .before .before .before .before .before .args .list .now)))
-    × (made (c .before .before .before .before .before .before .before .before .before .before .before .before .before .before .before .before .before .before .args .list .now) ≡ printed (c .before .before .before .before .before .before .before .before .before .before .before .before .before .before .before .before .before .before .args .list .now))
+    → (c .k2 .given .0 .0 ≡ length (pairingFile (list c))) × (made (list c) ≡ printed (list c))
 passes c =
     let at = c .before .before .before .before .before .before .before .before in
     let a = at .before .before .before .before .before .before .before .before .before .before .args in
@@ -45,14 +51,10 @@ enum-known-k-2 c = search needs
 
 slice-reshare-prefix-print-made : tie.Need-slice-reshare-prefix-print-made
 slice-reshare-prefix-print-made c =
-    let s = c .before .before .before .before .before .before .before .before .before .before .before .before .before .before .before .before .before .before .before .pre in
-    omega (
-      arith,
-      passes (c .before) .0,
-      pairing-most (c .before .before .before .before .before .before .before .before .before .before .before .before .before .before .before .before .before .before .before .args .list .now) (s .0 .accepted),
-      c .before .before .before .before .before .before .before .before .before .pair .kept .1 .1 .1 .0,
-      s .3,
-    )
+    let at-k = c .before in
+    let at = at-k .before .before .before .before .before .before .before .before in
+    let s = at .before .before .before .before .before .before .before .before .before .before .pre in
+    omega (arith, passes at-k .0, pairing-most (list at-k) (s .0 .accepted), at .pair .kept .1 .1 .1 .0, s .3)
 
 slice-aggregate-print-made : tie.Need-slice-aggregate-print-made
 slice-aggregate-print-made c =

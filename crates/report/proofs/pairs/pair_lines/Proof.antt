@@ -1,7 +1,8 @@
 -- `pair_lines` passes the list's entries. Invariant: the lines of the entries found before places i and j are written, and
 -- the lines of the whole merge are these and those from places i and j on (`Reached`).
-use Prim.Native.Nat.{_+_, _*_, _-_, _≤_}
+use Prim.Native.Nat.{ℕ, _+_, _*_, _-_, _≤_}
 use mathlib.Core.Path.{_≡_, refl, _∙_}
+use mathlib.Core.List.{List}
 use native.Mathlib.Omega.{arith}
 use lib.ListN.{length, drop}
 use borrow.Author.Needs.{needs}
@@ -21,15 +22,23 @@ abbrev μ-loop : tie.MeasureT-loop
 abbrev Read : Type 0
 Read = tie.After-pair-at Inv-loop μ-loop
 
+abbrev at-loop : Read → tie.At-loop Inv-loop μ-loop
+at-loop g = g .before .before .before .before .before .before
+
+abbrev list : Read → List ℕ
+list g = at-loop g .before .before .before .before .args .list .now
+
+abbrev other : Read → List ℕ
+other g = at-loop g .before .before .before .before .args .pairing .now
+
 -- the entry and the pair read are those at places i and j
-entry : (g : Read) → EntryRead (drop (4 + 5 * g .before .before .before .before .before .before .loop .i) (g .before .before .before .before .before .before .before .before .before .before .args .list .now)) (g .before .before .entry-at .result)
+entry : (g : Read) → EntryRead (drop (4 + 5 * at-loop g .loop .i) (list g)) (g .before .before .entry-at .result)
 entry g =
-    part (λ s. EntryRead s (g .before .before .entry-at .result)) (g .before .before .before .before .before .before .before .before .before .before .args .list .now) (4 + 5 * g .before .before .before .before .before .before .loop .i)
+    part (λ s. EntryRead s (g .before .before .entry-at .result)) (list g) (4 + 5 * at-loop g .loop .i)
     (g .before .before .entry-at .ensures)
 
-pair : (g : Read) → PairRead (drop (4 + 3 * g .before .before .before .before .before .before .loop .j) (g .before .before .before .before .before .before .before .before .before .before .args .pairing .now)) (g .pair-at .result)
-pair g =
-    part (λ s. PairRead s (g .pair-at .result)) (g .before .before .before .before .before .before .before .before .before .before .args .pairing .now) (4 + 3 * g .before .before .before .before .before .before .loop .j) (g .pair-at .ensures)
+pair : (g : Read) → PairRead (drop (4 + 3 * at-loop g .loop .j) (other g)) (g .pair-at .result)
+pair g = part (λ s. PairRead s (g .pair-at .result)) (other g) (4 + 3 * at-loop g .loop .j) (g .pair-at .ensures)
 
 loop-holds : tie.Need-loop-holds Inv-loop μ-loop
 loop-holds c =
@@ -98,13 +107,15 @@ add-if2-2 c = search needs
 
 pair-line-requires : tie.Need-pair-line-requires Inv-loop μ-loop
 pair-line-requires c κs =
-    let i = c .before .before .before .before .before .before .before .before .before .before .before .before .loop .inv in
-    omega (arith, i .2, i .3 .room, c .before .before .before .before .before .before .before .before .before .before .if1 .left, c .before .before .before .before .before .before .before .before .before .before .before .before .before .before .before .before .pre)
+    let g = c .before .before .before .before .before .before in
+    let i = at-loop g .loop .inv in
+    omega (arith, i .2, i .3 .room, g .before .before .before .before .if1 .left, at-loop g .before .before .before .before .pre)
 
 add-total : tie.Need-add-total Inv-loop μ-loop
 add-total c =
-    let i = c .before .before .before .before .before .before .before .before .before .before .before .before .before .before .before .before .loop .inv in
-    omega (arith, i .1, i .3 .small, c .before .before .before .before .before .before .before .before .before .before .before .before .entry-at .ensures .points-fit, c .before .before .before .before .before .before .before .before .before .before .before .before .before .before .before .before .before .before .before .before .pre)
+    let g = c .before .before .before .before .before .before .before .before .before .before in
+    let i = at-loop g .loop .inv in
+    omega (arith, i .1, i .3 .small, g .before .before .entry-at .ensures .points-fit, at-loop g .before .before .before .before .pre)
 
 add-j : tie.Need-add-j Inv-loop μ-loop
 add-j c = search needs
@@ -114,14 +125,15 @@ loop-less c = search needs
 
 loop-again : tie.Need-loop-again Inv-loop μ-loop
 loop-again c =
-    let g = c .before .before .before .before .before .before .before .before .before .before in
-    let a = c .before .before .before .before .before .before .before .before .before .before .before .before .before .before .before .before .before .before .before .before .args in
-    let i = c .before .before .before .before .before .before .before .before .before .before .before .before .before .before .before .before .loop .inv in (
+    let l = c .before .before .before in
+    let g = l .before .before .before .before .before .before .before in
+    let a = at-loop g .before .before .before .before .args in
+    let i = at-loop g .loop .inv in (
       omega arith,
       omega arith,
-      c .before .before .before .pair-line .ensures .long ∙ i .2,
-      reach-same (a .list .now) (a .pairing .now) (a .m) (a .k) (a .text .now) (a .at) (i .3) (c .before .before .before .before .before .before .before .before .before .before .before .before .before .before .before .loop-test .taken)
-          (c .before .before .before .before .before .before .before .before .before .before .before .before .before .before .if1 .left) _ (entry g) _ (pair g) (c .before .before .before .before .before .if2 .taken) (c .before .before .before .pair-line .ensures),
+      l .pair-line .ensures .long ∙ i .2,
+      reach-same (list g) (other g) (a .m) (a .k) (a .text .now) (a .at) (i .3) (g .before .before .before .before .before .loop-test .taken)
+          (g .before .before .before .before .if1 .left) _ (entry g) _ (pair g) (l .before .before .if2 .taken) (l .pair-line .ensures),
     )
 
 loop-less-2 : tie.Need-loop-less-2 Inv-loop μ-loop
@@ -130,13 +142,13 @@ loop-less-2 c = search needs
 loop-again-2 : tie.Need-loop-again-2 Inv-loop μ-loop
 loop-again-2 c =
     let g = c .before .before .before .before .before in
-    let a = c .before .before .before .before .before .before .before .before .before .before .before .before .before .before .before .args in
-    let i = c .before .before .before .before .before .before .before .before .before .before .before .loop .inv in (
+    let a = at-loop g .before .before .before .before .args in
+    let i = at-loop g .loop .inv in (
       omega arith,
       i .1,
       i .2,
-      reach-other (a .list .now) (a .pairing .now) (a .m) (a .k) (a .text .now) (a .at) (i .3) (c .before .before .before .before .before .before .before .before .before .before .loop-test .taken)
-          (c .before .before .before .before .before .before .before .before .before .if1 .left) _ (entry g) _ (pair g) (c .if2 .left),
+      reach-other (list g) (other g) (a .m) (a .k) (a .text .now) (a .at) (i .3) (g .before .before .before .before .before .loop-test .taken)
+          (g .before .before .before .before .if1 .left) _ (entry g) _ (pair g) (c .if2 .left),
     )
 
 same-length-2 : tie.Need-same-length-2 Inv-loop μ-loop
