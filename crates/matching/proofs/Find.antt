@@ -15,7 +15,7 @@ use Rattle.matching.specs.Lists.{mem}
 use Rattle.matching.specs.Pairs.{Points}
 use Rattle.matching.specs.Graph.{Graph, partners, degree}
 use Rattle.matching.specs.Steps.{Rule, by-leaf, by-ring, by-chain, Step, leaf, ring, chain, name}
-use Rattle.matching.specs.Shapes.{IsRow, Lowest, IsRing, IsChain, IsStep, first, last}
+use Rattle.matching.specs.Shapes.{IsRow, Lowest, IsLeaf, IsRing, IsChain, IsStep, first, last}
 use Rattle.matching.specs.Find.{Row, row, lowest, isLowest, two, provided, leafOf, ringOf, chainOf}
 use Rattle.matching.specs.Find.{orElse, search, stepAt, firstStep}
 use Rattle.matching.proofs.Tests.{Test, pass, fail, isT, eqT, ltT, notT, andT, mapT, fails}
@@ -25,7 +25,7 @@ use Rattle.matching.proofs.Put.{pair-below, pair-apart}
 use Rattle.matching.proofs.Partners.{has-partner, partner-of, partners-one}
 use Rattle.matching.proofs.Rows.{AtEnd, row-read, row-is, is-run, way-out, inner-below, row-of}
 use Rattle.matching.proofs.Rows.{run-two, run-closed, rows-meet, rows-same}
-use Rattle.matching.proofs.Search.{none-some, Searched, searched, search-some, search-found}
+use Rattle.matching.proofs.Search.{none-some, Searched, searched, search-some, search-first, search-found}
 
 -- ---- what the tests tell
 
@@ -387,6 +387,17 @@ module _ {n : ℕ} {w : Points} (g : Graph n w) where
   pub first-step-first : (s : Step) → firstStep n w ≡ some s
       → (r : Rule) (c : ℕ) (t : Step) → IsStep n w r c t → Tried (name s) (r, c)
   first-step-first s h = subst (First n w) h first-step .1
+
+  -- a leaf, where no lower cell is one
+  pub first-leaf : (u v : ℕ) → IsLeaf n w u v → ((c : ℕ) → c < v → degree n w c ≢ 1) → firstStep n w ≡ some (leaf u v)
+  unfolding firstStep
+  first-leaf u v l none-below =
+      ap (λ (o : Option Step). orElse o (orElse (search (stepAt n w by-ring) n) (search (stepAt n w by-chain) n)))
+      (search-first (stepAt n w by-leaf) n v (leaf u v) (step-below by-leaf v (leaf u v) (refl, l))
+      (step-found by-leaf v (leaf u v) (refl, l)) (λ c k. step-none by-leaf c .1 (off c k)))
+    where
+      off : (c : ℕ) → c < v → (s : Step) → IsStep n w by-leaf c s → ⊥
+      off c k (leaf u′ v′) p = none-below c k (rw (← p .0) (p .1 .one))
 
   pub first-step-none : (firstStep n w ≡ none) ↔ ((r : Rule) (c : ℕ) (s : Step) → IsStep n w r c s → ⊥)
   first-step-none = ((λ h. subst (First n w) h first-step), λ nil. go nil (firstStep n w) first-step)

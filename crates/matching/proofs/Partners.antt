@@ -1,7 +1,7 @@
 -- The partners of a cell. In order: x is a partner of c just where 0 < w c x (`partnerT`), and on a graph of n cells
--- n is enough (`partners-more`); the partners ascend, so that none stands twice; a cell with one partner, a cell with
+-- n is enough (`partners-more`), and only which pairs have points counts (`partners-like`); the partners ascend, so that none stands twice; a cell with one partner, a cell with
 -- two (`Between`).
-use mathlib.Core.Path.{_≡_, refl, sym, ap, _∙_}
+use mathlib.Core.Path.{_≡_, refl, sym, ap, ap₂, _∙_}
 use mathlib.Core.Logic.{_⊎_, inl, inr, _≢_, ⊎-map, ⊎-swap}
 use mathlib.Core.Bool.{Bool, true, false, cond, _||_}
 use mathlib.Core.List.{List, [], _∷_, _++_, append-nil}
@@ -39,6 +39,14 @@ partnerT (suc n) w c x =
         gone : x < suc n → {t : Bool} → Test (n ≡ x) (n ≢ x) t → w c x ≡ 0
         gone h (pass e) = rw (← e) (omega arith)
         gone h (fail d) = m (omega arith)
+
+-- where the same pairs of c have points
+pub partners-like : (n : ℕ) (w w′ : Points) (c : ℕ) → ((x : ℕ) → ltb 0 (w′ c x) ≡ ltb 0 (w c x))
+    → partners n w′ c ≡ partners n w c
+unfolding partners
+partners-like zero w w′ c e = refl
+partners-like (suc n) w w′ c e =
+    ap₂ (λ ps t. ps ++ cond t (n ∷ []) []) (partners-like n w w′ c e) (e n)
 
 -- more cells than a graph has bring no partner
 pub partners-more : {n : ℕ} {w : Points} → Graph n w → (k c : ℕ) → n ≤ k → partners k w c ≡ partners n w c

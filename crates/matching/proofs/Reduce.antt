@@ -1,8 +1,8 @@
 -- Slips and reduce. In order: the steps that a slip names stand, each on what the one before it left (`replay-fits`),
--- and there are no more of them than cells (`slip-count`); the steps of reduce are allowed (`reduce-replay`), and after
--- them none is (`reduce-ends`).
-use mathlib.Core.Path.{_≡_, refl, ap, ap₂, subst}
-use mathlib.Core.List.{List, [], _∷_, map}
+-- and there are no more of them than cells (`slip-count`); the steps of reduce are allowed (`reduce-replay`), come
+-- in parts (`reduce-append`), and after them none is (`reduce-ends`).
+use mathlib.Core.Path.{_≡_, refl, ap, ap₂, subst, _∙_}
+use mathlib.Core.List.{List, [], _∷_, _++_, map}
 use mathlib.Core.Option.{Option, some, none}
 use Prim.Native.Nat.{ℕ, zero, suc, _+_, _≤_}
 use native.Mathlib.Omega.{arith}
@@ -80,6 +80,24 @@ reduce-replay (suc k) {n} {w} g = go (firstStep n w) refl (λ s f. reduce-replay
     go (some s) e i =
         replay-more n w (name s) s (map name (reduce k n (apply w s))) (reduce k n (apply w s))
         (first-step-is g s e) (i s (first-fits g s e))
+
+-- the first steps of reduce, and then those from what they left
+pub reduce-append : (ss : List Step) (j n : ℕ) (w : Points) → reduce (length ss) n w ≡ ss
+    → reduce (length ss + j) n w ≡ ss ++ reduce j n (left w ss)
+reduce-append [] j n w h = ap (λ i. reduce i n w) {x = 0 + j} {y = j} (omega arith)
+reduce-append (s ∷ ss) j n w h =
+    ap (λ i. reduce i n w) {x = suc (length ss) + j} {y = suc (length ss + j)} (omega arith)
+    ∙ go (firstStep n w) h (λ t. reduce-append ss j n (apply w t))
+  where
+    go : (o : Option Step) → steps (length ss) n w o ≡ s ∷ ss
+        → ((t : Step) → reduce (length ss) n (apply w t) ≡ ss
+        → reduce (length ss + j) n (apply w t) ≡ ss ++ reduce j n (left (apply w t) ss))
+        → steps (length ss + j) n w o ≡ s ∷ ss ++ reduce j n (left (apply w s) ss)
+    go none e i = absurd (let q : _≡_ {A = ℕ} 0 (suc (length ss)) = ap length e in omega arith)
+    go (some t) e i =
+        let here : t ≡ s = cc in
+        let rest : reduce (length ss) n (apply w t) ≡ ss = cc in
+        ap₂ _∷_ here (i t rest ∙ ap (λ (x : Step). ss ++ reduce j n (left (apply w x) ss)) here)
 
 reduce-last : (k : ℕ) {n : ℕ} {w : Points} → Graph n w → cellsLeft n w ≤ k
     → firstStep n (left w (reduce k n w)) ≡ none

@@ -51,6 +51,14 @@ Small n w =
     (rs : List (Rule × ℕ)) (ss : List Step) → replay n w rs ≡ some ss
     → (a b : ℕ) → left w ss a b + carried w ss < 17592186044416
 
+-- After k steps and with so many words on the trail there is room for r more steps as reduce takes them; none where the
+-- slip has steps left.
+pub record Spare (m more k on-trail r : ℕ) : Type 0 where
+  pub course : k + r ≤ m + more
+  pub names : k + r ≤ 1024
+  pub trail : on-trail + r ≤ 4096
+  pub slip : k < m → r ≡ 0
+
 -- What the loop asks: e slots hold a graph of n cells.
 pub record RunThere (n e m : ℕ) (slip w1 w2 : List ℕ) : Type 0 where
   pub holds : Holds e w1 w2

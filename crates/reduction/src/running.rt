@@ -1,5 +1,6 @@
 // The loop of replay and reduce: see specs/Running and specs/Course.
 use cellfile::decode;
+use leaves;
 use steps::applying;
 use steps::finding;
 use steps::finding::Found;
@@ -12,7 +13,7 @@ ghost use Rattle.matching.specs.Graph.{Graph};
 ghost use Rattle.matching.specs.Steps.{Step as DefinedStep};
 ghost use Rattle.slots.specs.Slots.{Holds, graphOf};
 ghost use Rattle.steps.specs.Finding.{told, toTell, Finds, Quiet};
-ghost use Rattle.reduction.specs.Running.{RunThere, Runs, namesAt, namesFrom, nextStep, named, toName};
+ghost use Rattle.reduction.specs.Running.{RunThere, Runs, namesAt, namesFrom, nextStep, named, toName, Spare};
 
 // A refusal, or what stands in the buffers after the steps: the slots in use, the words on the trail, the points carried,
 // and the number of steps, which stand as words from 6,144 on in the second buffer.
@@ -74,6 +75,30 @@ fn next(
     finding::first_step(w1, w2, e, n, low)
 }
 
+fn least(a: usize, b: usize) -> usize
+    ensures { λ r. ⌜ (r ≤ a) × (r ≤ b) ⌝ }
+{
+    if a < b {
+        return a;
+    }
+    b
+}
+
+const MOST_STEPS: usize = 1024;
+
+const TRAIL_WORDS: usize = 4096;
+
+// For how many more steps as reduce takes them there is room, after k steps and with so many words on the trail.
+fn spare(m: usize, more: usize, k: usize, trail: usize) -> usize
+    requires { ⌜ (k ≤ 1024) × (trail ≤ 4096) × (k ≤ m + more) × (m < 8192) × (more ≤ 1024) ⌝ }
+    ensures { λ r. ⌜ Spare m more k trail r ⌝ }
+{
+    if k < m {
+        return 0;
+    }
+    least(least(MOST_STEPS - k, TRAIL_WORDS - trail), m + more - k)
+}
+
 // Takes the first m steps of the slip, then at most `more` steps as reduce takes them.
 pub fn run(
     slip: &[u8],
@@ -110,6 +135,12 @@ pub fn run(
         trail = t.trail;
         carried += t.carried;
         k += 1;
+        let most = spare(m, more, k, trail);
+        let run = leaves::leaf_run(w1, w2, slots, n, low, trail, k, most);
+        low = run.low;
+        carried += run.carried;
+        trail += run.steps;
+        k += run.steps;
     }
     Ran::Done {
         slots,

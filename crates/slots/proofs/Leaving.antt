@@ -20,7 +20,7 @@ use Rattle.slots.proofs.Stores.{aside-on}
 use Rattle.slots.proofs.Graphs.{joinT, same-swap, apart-not, holds-graph, joins-points}
 
 -- A cell with one partner has no other pair.
-only-pair : {n : ℕ} {g : Points} → Graph n g → (u v : ℕ) → partners n g v ≡ u ∷ [] → (c : ℕ) → c ≢ u → g v c ≡ 0
+pub only-pair : {n : ℕ} {g : Points} → Graph n g → (u v : ℕ) → partners n g v ≡ u ∷ [] → (c : ℕ) → c ≢ u → g v c ≡ 0
 only-pair {n} {g} G u v e c k = go (ltT 0 (g v c))
   where
     go : {t : Bool} → Test (0 < g v c) (g v c ≤ 0) t → g v c ≡ 0

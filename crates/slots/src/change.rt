@@ -55,7 +55,7 @@ fn lessen(w1: &mut [u64], w2: &mut [u64], e: usize, i: usize, p: u64)
 }
 
 // Every pair at u loses p.
-fn lessen_all(w1: &mut [u64], w2: &mut [u64], e: usize, u: usize, p: u64)
+pub fn lessen_all(w1: &mut [u64], w2: &mut [u64], e: usize, u: usize, p: u64)
     requires { ⌜ (Holds e (now w1) (now w2)) × (u < 1024) ⌝ }
     ensures { λ _. ⌜ Changed e (lessAll u p (graphOf e (now (w1 .entry))))
         (now (w1 .exit)) (now (w2 .entry)) (now (w2 .exit)) ⌝ }

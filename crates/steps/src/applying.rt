@@ -71,7 +71,7 @@ const PAIRS: u64 = 4294967296;
 const MORE: u64 = 35184372088832;
 
 // The word that closes a step's part of the trail.
-fn closing_word(rule: u64, u: usize, v: usize, z: usize, pairs: usize, more: u64) -> u64
+pub fn closing_word(rule: u64, u: usize, v: usize, z: usize, pairs: usize, more: u64) -> u64
     requires { ⌜ (rule ≤ 3) × (u < 1024) × (v < 1024) × (z < 1024) × (pairs ≤ 4096) × (more ≤ 1) ⌝ }
     ensures { λ r. ⌜ r ≡ closing rule u v z pairs more ⌝ }
 {

@@ -14,7 +14,7 @@ use Rattle.reduction.specs.Calls.{numberOf}
 use Rattle.reduction.specs.Running.{namesFrom, nextStep, named, toName}
 use Rattle.reduction.proofs.Runs.{Coursing, run-start, run-graph, run-name, run-few, run-there, run-step, run-on}
 use Rattle.reduction.proofs.Runs.{run-length, run-carries, run-quiet, run-refused, run-ends, run-out}
-use Rattle.reduction.proofs.Runs.{found-name, found-none}
+use Rattle.reduction.proofs.Runs.{run-most, run-more, run-more-carries, found-name, found-none}
 use Rattle.reduction.proofs.running.run.Statement.{statement}
 use Rattle.reduction.proofs.running.run.Tie as tie
 
@@ -150,27 +150,89 @@ add-k c =
     let g = c .before .before .before .before .before .before .before .before .before .before .before in
     omega (arith, the-few g)
 
-loop-less : tie.Need-loop-less Inv-loop μ-loop
-loop-less c =
-    let g = c .before .before .before .before .before .before .before .before .before .before .before in
-    omega (arith, g .before .before .before .before .before .before .before .loop-test .taken)
-
-loop-again : tie.Need-loop-again Inv-loop μ-loop
-loop-again c =
+-- after the step that was found: its laws are `run-on` and what follows from it
+spare-requires : tie.Need-spare-requires Inv-loop μ-loop
+spare-requires c κs =
     let g = c .before .before .before .before .before .before .before .before .before .before .before in
     let p = g .before .before .before .before .before .before .before .before .before .before .before .before .pre .0 in
     let x = the-step g in
     let l = g .before .before .before .before .before .before .before .before .loop in
-    let h = l .inv .2 in
     let f = g .before .before .before .before .next .ensures in
     let u = c .before .before .before .before .before .take-step in
-    let d = u .ensures (x .0) (run-step (p .graph) (p .cells) (p .small) h (x .0) (x .1) f) in
-    let t = g .before .before .before .before .before .before .before .loop-test .taken in (
-      u .kept .0 ∙ l .inv .0,
-      run-length (p .graph) (p .cells) (p .small) h (x .0) (x .1) d (u .kept .1 .0) (x .2) (x .3) t ∙ l .inv .1,
-      run-on (p .graph) (p .cells) (p .small) h (x .0) (x .1) d (u .kept .1 .0) (x .2) (x .3) t,
-      run-quiet (p .graph) (p .cells) (p .small) h (x .0) (x .1) d (u .kept .1 .0) (x .2) (x .3) t f
-          (c .before .before .before .before .before .before .before .before .quiet-after .ensures) (l .inv .3),
+    let d = u .ensures (x .0) (run-step (p .graph) (p .cells) (p .small) (l .inv .2) (x .0) (x .1) f) in
+    let t = g .before .before .before .before .before .before .before .loop-test .taken in
+    let h =
+    run-on (p .graph) (p .cells) (p .small) (l .inv .2) (x .0) (x .1) d (u .kept .1 .0) (x .2) (x .3) t in
+    let most = run-most (p .graph) (p .cells) (p .small) h in
+    (most .0, most .1, h .top, p .count, g .before .before .before .before .before .before .before .before .before .before .before .before .pre .1)
+
+leaf-run-requires : tie.Need-leaf-run-requires Inv-loop μ-loop
+leaf-run-requires c κs =
+    let g = c .before .before .before .before .before .before .before .before .before .before .before .before .before .before in
+    let p = g .before .before .before .before .before .before .before .before .before .before .before .before .pre .0 in
+    let x = the-step g in
+    let l = g .before .before .before .before .before .before .before .before .loop in
+    let f = g .before .before .before .before .next .ensures in
+    let u = c .before .before .before .before .before .before .before .before .take-step in
+    let d = u .ensures (x .0) (run-step (p .graph) (p .cells) (p .small) (l .inv .2) (x .0) (x .1) f) in
+    let t = g .before .before .before .before .before .before .before .loop-test .taken in
+    let h =
+    run-on (p .graph) (p .cells) (p .small) (l .inv .2) (x .0) (x .1) d (u .kept .1 .0) (x .2) (x .3) t in
+    let sp = c .before .before .spare .ensures in (
+      h .after .holds,
+      p .cells,
+      run-graph (p .graph) (p .cells) (p .small) h,
+      run-quiet (p .graph) (p .cells) (p .small) (l .inv .2) (x .0) (x .1) d (u .kept .1 .0) (x .2) (x .3) t f
+          (c .before .before .before .before .before .before .before .before .before .before .before .quiet-after .ensures) (l .inv .3),
+      sp .trail,
+      sp .names,
+    )
+
+add-carried-2 : tie.Need-add-carried-2 Inv-loop μ-loop
+add-carried-2 c =
+    let g = c .before .before .before .before .before .before .before .before .before .before .before .before .before .before .before .before .before .before .before .before in
+    let p = g .before .before .before .before .before .before .before .before .before .before .before .before .pre .0 in
+    let x = the-step g in
+    let l = g .before .before .before .before .before .before .before .before .loop in
+    let f = g .before .before .before .before .next .ensures in
+    let u = c .before .before .before .before .before .before .before .before .before .before .before .before .before .before .take-step in
+    let d = u .ensures (x .0) (run-step (p .graph) (p .cells) (p .small) (l .inv .2) (x .0) (x .1) f) in
+    let t = g .before .before .before .before .before .before .before .loop-test .taken in
+    let h =
+    run-on (p .graph) (p .cells) (p .small) (l .inv .2) (x .0) (x .1) d (u .kept .1 .0) (x .2) (x .3) t in
+    omega (
+      arith,
+      run-more-carries (p .graph) (p .cells) (p .small) h (c .before .before .before .before .before .before .before .before .spare .ensures) (c .before .before .before .before .before .leaf-run .ensures),
+    )
+
+add-trail : tie.Need-add-trail Inv-loop μ-loop
+add-trail c = omega (arith, c .before .before .before .before .before .before .before .before .before .spare .ensures .trail, c .before .before .before .before .before .before .leaf-run .ensures .few)
+
+add-k-2 : tie.Need-add-k-2 Inv-loop μ-loop
+add-k-2 c = omega (arith, c .before .before .before .before .before .before .before .before .before .before .spare .ensures .names, c .before .before .before .before .before .before .before .leaf-run .ensures .few)
+
+loop-less : tie.Need-loop-less Inv-loop μ-loop
+loop-less c = omega (arith, c .before .before .before .before .before .before .before .before .before .before .before .before .before .before .before .before .before .before .before .before .before .before .before .before .before .before .before .before .before .loop-test .taken)
+
+loop-again : tie.Need-loop-again Inv-loop μ-loop
+loop-again c =
+    let g = c .before .before .before .before .before .before .before .before .before .before .before .before .before .before .before .before .before .before .before .before .before .before in
+    let p = g .before .before .before .before .before .before .before .before .before .before .before .before .pre .0 in
+    let x = the-step g in
+    let l = g .before .before .before .before .before .before .before .before .loop in
+    let f = g .before .before .before .before .next .ensures in
+    let u = c .before .before .before .before .before .before .before .before .before .before .before .before .before .before .before .before .take-step in
+    let d = u .ensures (x .0) (run-step (p .graph) (p .cells) (p .small) (l .inv .2) (x .0) (x .1) f) in
+    let t = g .before .before .before .before .before .before .before .loop-test .taken in
+    let h =
+    run-on (p .graph) (p .cells) (p .small) (l .inv .2) (x .0) (x .1) d (u .kept .1 .0) (x .2) (x .3) t in
+    let r = c .before .before .before .before .before .before .before .leaf-run in (
+      r .kept .0 ∙ u .kept .0 ∙ l .inv .0,
+      r .kept .1 .0
+          ∙ run-length (p .graph) (p .cells) (p .small) (l .inv .2) (x .0) (x .1) d (u .kept .1 .0) (x .2) (x .3) t
+          ∙ l .inv .1,
+      run-more (p .graph) (p .cells) (p .small) h (c .before .before .before .before .before .before .before .before .before .before .spare .ensures) (r .ensures),
+      r .ensures .quiet,
     )
 
 same-length-3 : tie.Need-same-length-3 Inv-loop μ-loop
@@ -223,6 +285,11 @@ run-spec =
     slice-write-w2
     add-carried
     add-k
+    spare-requires
+    leaf-run-requires
+    add-carried-2
+    add-trail
+    add-k-2
     loop-less
     loop-again
     same-length-3

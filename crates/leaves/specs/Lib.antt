@@ -1,0 +1,2 @@
+-- A run of leaf steps at one cell.
+pub mod Runs
