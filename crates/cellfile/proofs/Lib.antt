@@ -12,10 +12,6 @@ pub mod Forms
 pub mod Parts
 -- Writing into an output.
 pub mod Outputs
--- The points and the best of rows.
-pub mod RowPoints
-pub mod RowBest
-pub mod RowParts
 -- Weighing: cells that stand twice, the merge, and the layers of the call.
 pub mod Marks
 pub mod Repeated

@@ -24,7 +24,7 @@ abbrev pub putDown : ℕ → ℕ → List ℕ → List ℕ
 putDown zero v out = out
 putDown (suc k) v out = putDown k (v / 256) (set out k (v % 256))
 
-pub set-drop : (out : List ℕ) (k x : ℕ) → k < length out → drop k (set out k x) ≡ x ∷ drop (suc k) out
+set-drop : (out : List ℕ) (k x : ℕ) → k < length out → drop k (set out k x) ≡ x ∷ drop (suc k) out
 set-drop out k x h =
     drop-cons (set out k x) k 0 (rw length-set h)
     ∙ rw (getD-set-same out k x 0 h, drop-set-lt (suc k) out k x (omega arith))

@@ -8,4 +8,3 @@ pub mod Answers
 pub mod Weigh
 pub mod Reads
 pub mod Loops
-pub mod Row

@@ -1,7 +1,6 @@
 // The files of the load-cell store, and weighing a pairing of a store list.
 pub mod decode;
 pub mod form;
-pub mod row;
 mod weighing;
 pub mod work;
 pub mod write;

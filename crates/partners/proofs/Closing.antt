@@ -21,8 +21,8 @@ use Rattle.matching.proofs.Fits.{Fits}
 use Rattle.matching.proofs.Segment.{row-below}
 use Rattle.matching.proofs.Find.{is-fits}
 use Rattle.cellfile.specs.Answers.{Answer}
-use Rattle.cellfile.specs.Row.{rowWords}
-use Rattle.cellfile.proofs.RowParts.{length-row}
+use Rattle.rows.specs.Row.{rowWords}
+use Rattle.rows.proofs.Parts.{length-row}
 use Rattle.steps.specs.Trail.{stepWords}
 use Rattle.steps.specs.Finding.{told, toTell}
 use Rattle.steps.specs.declared.finding.Step as declared

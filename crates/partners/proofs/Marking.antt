@@ -14,7 +14,7 @@ use Rattle.matching.specs.Pairs.{Pair, Points, sum, Each, hit}
 use Rattle.matching.specs.Pairing.{Once}
 use Rattle.matching.specs.Best.{walk}
 use Rattle.matching.proofs.Sums.{sum-append}
-use Rattle.cellfile.specs.Row.{rowWords, marked}
+use Rattle.rows.specs.Row.{rowWords, marked}
 use Rattle.partners.specs.Table.{TrailKept}
 use Rattle.partners.specs.Unwinding.{joined, TableOf, cellOf, startOf, pairsOf, wordsAt, PutThere}
 use Rattle.partners.proofs.Mating.{joined-aside, mates-join}

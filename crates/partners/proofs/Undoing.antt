@@ -10,7 +10,7 @@ use Prim.Native.Nat.{ℕ, suc, _+_, _-_, _≤_, _<_}
 use native.Mathlib.Omega.{arith}
 use borrow.Author.Tests.{eq-eqb, ne-eqb}
 use lib.Dec.{eqb}
-use lib.ListN.{length, getD, take, drop, length-drop}
+use lib.ListN.{length, getD, take, drop, length-drop, length-replicate}
 use lib.Seq.{length-take-le}
 use Rattle.matching.specs.Pairs.{Pair, Points, Each, keep, free}
 use Rattle.matching.specs.Pairing.{Once}
@@ -22,8 +22,8 @@ use Rattle.matching.proofs.Fits.{Fits, Segment}
 use Rattle.matching.proofs.Segment.{row-below}
 use Rattle.matching.proofs.Find.{is-fits}
 use Rattle.matching.proofs.Exact.{step-lifted}
-use Rattle.cellfile.specs.Row.{rowWords, RowOf, marked, less, RowBest}
-use Rattle.cellfile.proofs.RowParts.{length-row}
+use Rattle.rows.specs.Row.{rowWords, RowOf, unmarked, Blank, marked, less, RowBest}
+use Rattle.rows.proofs.Parts.{length-row}
 use Rattle.partners.specs.Unwinding.{joined, TableOf, pairsOf, wordsAt, PutThere, ChainFreed, RingFreed}
 use Rattle.partners.specs.Unwinding.{StepBack, LeafBack, RingBack, ChainBack}
 use Rattle.partners.specs.Back.{Mates}
@@ -117,10 +117,16 @@ module _ {a : ℕ} {marks w2 : List ℕ} {w : Points} {s : Step} {m : List Pair}
         ∙ words-same a (length marks) w2 w2a kept (b .on-trail) (b .back .room2) same
         ∙ b .words
 
-    row-asks : (3 ≤ length lent) × (length lent ≤ 8192) × (length marks ≡ length lent)
-    row-asks =
+    row-asks : {none : List ℕ} → none ≡ unmarked (length marks)
+        → (3 ≤ length lent) × (length lent ≤ 8192) × (length none ≡ length lent) × Blank none
+    row-asks {none} e =
         let l : length lent ≡ suc (length inner) = ap length row-lent ∙ length-row w u inner v in
-        (omega (arith, b .segment .more), omega (arith, row-count, b .on-trail), row-count ∙ sym l)
+        let n : length none ≡ length marks = ap length e ∙ length-replicate (length marks) 0 in (
+          omega (arith, b .segment .more),
+          omega (arith, row-count, b .on-trail),
+          n ∙ row-count ∙ sym l,
+          e ∙ ap unmarked (sym n),
+        )
 
     row-of : RowOf w u inner v lent
     row-of = record {
@@ -194,9 +200,10 @@ module _ {a u z : ℕ} {marks w2 : List ℕ} (b : RingBack a u z marks w2) where
     ring-freed : RingFreed u z (b .pairs) w2 w2a t
     ring-freed = free (b .pairs) (b .back .pairing .once) (b .back .mates)
 
-    pub ring-asks : (3 ≤ length (take (a + length marks - a) (drop a w2a)))
+    pub ring-asks : {none : List ℕ} → none ≡ unmarked (length marks)
+        → (3 ≤ length (take (a + length marks - a) (drop a w2a)))
         × (length (take (a + length marks - a) (drop a w2a)) ≤ 8192)
-        × (length marks ≡ length (take (a + length marks - a) (drop a w2a)))
+        × (length none ≡ length (take (a + length marks - a) (drop a w2a))) × Blank none
     ring-asks = row-asks ring-row w2a (ring-freed .table .aside) same
 
     module _ (marks′ : List ℕ) (as-many : length marks′ ≡ length marks)
@@ -245,9 +252,10 @@ module _ {a u v z : ℕ} {more : Bool} {marks w2 : List ℕ} (b : ChainBack a u 
         subst (λ (d : Bool). ChainFreed u v z d (b .pairs) w2 w2a r) (b .direct)
         (free (b .pairs) (b .back .pairing .once) (b .back .mates))
 
-    pub chain-asks : (3 ≤ length (take (a + length marks - a) (drop a w2a)))
+    pub chain-asks : {none : List ℕ} → none ≡ unmarked (length marks)
+        → (3 ≤ length (take (a + length marks - a) (drop a w2a)))
         × (length (take (a + length marks - a) (drop a w2a)) ≤ 8192)
-        × (length marks ≡ length (take (a + length marks - a) (drop a w2a)))
+        × (length none ≡ length (take (a + length marks - a) (drop a w2a))) × Blank none
     chain-asks = row-asks chain-row w2a (chain-freed .table .aside) same
 
     module _ (marks′ : List ℕ) (as-many : length marks′ ≡ length marks)

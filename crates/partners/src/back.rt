@@ -1,6 +1,6 @@
 // The way back through the steps on the trail, on the table of partners: see specs/Back, and specs/Unwinding for its
 // parts.
-use cellfile::row;
+use cellfile::work::clear;
 use steps::finding::Step;
 ghost use mathlib.Core.Path.{_≡_};
 ghost use mathlib.Core.Bool.{cond};
@@ -12,7 +12,7 @@ ghost use lib.ListN.{length};
 ghost use Rattle.matching.specs.Pairs.{Pair, Points, held};
 ghost use Rattle.matching.specs.Pairing.{Once};
 ghost use Rattle.matching.specs.Steps.{Step as DefinedStep, leaf, ring, chain, undo};
-ghost use Rattle.cellfile.specs.Row.{marked};
+ghost use Rattle.rows.specs.Row.{marked};
 ghost use Rattle.steps.specs.Finding.{told, toTell};
 ghost use Rattle.partners.specs.Back.{Mates, UndoThere, Undone, BackThere, Lifted};
 ghost use Rattle.partners.specs.Unwinding.{joined, parted, TableOf, cellOf, pairsOf, wordsAt, PutThere};
@@ -159,7 +159,8 @@ fn undo_ring(marks: &mut [u64], w2: &mut [u64], a: usize, u: usize, z: usize)
 {
     let less_u = free_ring(w2, u, z);
     let end = a + marks.len();
-    row::mark_ring(&w2[a..end], less_u, marks);
+    clear(marks);
+    rows::mark_ring(&w2[a..end], less_u, marks);
     put_marked(marks, w2, a, u);
 }
 
@@ -171,7 +172,8 @@ fn undo_chain(marks: &mut [u64], w2: &mut [u64], a: usize, u: usize, v: usize, z
 {
     let ends = free_chain(w2, u, v, z, more);
     let end = a + marks.len();
-    row::mark_chain(&w2[a..end], ends.less_u, ends.less_v, marks);
+    clear(marks);
+    rows::mark_chain(&w2[a..end], ends.less_u, ends.less_v, marks);
     put_marked(marks, w2, a, v);
 }
 

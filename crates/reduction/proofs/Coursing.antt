@@ -19,7 +19,7 @@ use Rattle.matching.proofs.Count.{step-fewer}
 use Rattle.matching.proofs.Gone.{step-gone}
 use Rattle.matching.proofs.Exact.{step-graph}
 use Rattle.matching.proofs.Course.{behind}
-use Rattle.cellfile.specs.Row.{rowWords}
+use Rattle.rows.specs.Row.{rowWords}
 use Rattle.steps.specs.Trail.{stepWords, trail}
 use Rattle.reduction.specs.Course.{course}
 use Rattle.reduction.specs.Running.{nextStep}

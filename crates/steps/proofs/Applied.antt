@@ -32,10 +32,10 @@ use Rattle.matching.proofs.Partners.{partners-one}
 use Rattle.matching.proofs.Rows.{Ends, inner-below, row-of}
 use Rattle.matching.proofs.Search.{none-some}
 use Rattle.cellfile.specs.Answers.{Answer}
-use Rattle.cellfile.specs.Row.{rowWords, RowOf, ChainH, RingH}
-use Rattle.cellfile.specs.declared.row.ChainPoints.{ChainPoints}
-use Rattle.cellfile.specs.declared.row.RingPoints.{RingPoints}
-use Rattle.cellfile.proofs.RowParts.{length-row}
+use Rattle.rows.specs.Row.{rowWords, RowOf, ChainH, RingH}
+use Rattle.rows.specs.declared.ChainPoints.{ChainPoints}
+use Rattle.rows.specs.declared.RingPoints.{RingPoints}
+use Rattle.rows.proofs.Parts.{length-row}
 use Rattle.slots.specs.Slots.{Holds, graphOf, Joins, Changed, live}
 use Rattle.slots.proofs.Graphs.{holds-graph}
 use Rattle.slots.proofs.Lives.{live-most}

@@ -19,7 +19,7 @@ use Rattle.matching.proofs.Pairs.{Same, sameT}
 use Rattle.matching.proofs.Sums.{like-turned, like-self, turned-same, In, in-cases, in-turned, no-in}
 use Rattle.matching.proofs.Put.{put-else}
 use Rattle.matching.proofs.Rows.{Run, run-closed}
-use Rattle.cellfile.specs.Row.{rowWords}
+use Rattle.rows.specs.Row.{rowWords}
 use Rattle.slots.proofs.Graphs.{same-is}
 use Rattle.slots.proofs.Degrees.{degree-same}
 

@@ -23,7 +23,7 @@ use Rattle.matching.proofs.Pairs.{Same, sameT}
 use Rattle.matching.proofs.Put.{put-else, pair-below}
 use Rattle.matching.proofs.Partners.{Between, partners-two}
 use Rattle.matching.proofs.Rows.{Run, is-run}
-use Rattle.cellfile.specs.Row.{rowWords}
+use Rattle.rows.specs.Row.{rowWords}
 use Rattle.slots.specs.Slots.{Holds, graphOf, lowOf, highOf, Joins, Changed, live}
 use Rattle.slots.specs.Found.{Next}
 use Rattle.slots.specs.declared.read.Other.{Other}

@@ -8,7 +8,7 @@ use lib.ListN.{length, getD, take}
 use Rattle.matching.specs.Pairs.{Points, ι}
 use Rattle.matching.specs.Graph.{put, dropped}
 use Rattle.matching.specs.Shapes.{IsLeaf, IsRing, IsChain, first}
-use Rattle.cellfile.specs.Row.{rowWords}
+use Rattle.rows.specs.Row.{rowWords}
 use Rattle.slots.specs.Slots.{Holds, graphOf, Joins, Changed}
 use Rattle.steps.specs.Rows.{innerAt}
 use Rattle.steps.specs.declared.applying.Cleared.{Cleared}

@@ -7,7 +7,7 @@ use Rattle.matching.specs.Pairs.{Points}
 use Rattle.matching.specs.Graph.{partners, dropped}
 use Rattle.matching.specs.Shapes.{IsRow, first}
 use Rattle.matching.specs.Find.{Row, row}
-use Rattle.cellfile.specs.Row.{rowWords}
+use Rattle.rows.specs.Row.{rowWords}
 use Rattle.slots.specs.Slots.{Holds, graphOf, Joins, live}
 
 -- The row that leaves u at its partner f, read by walking.

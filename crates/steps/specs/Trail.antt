@@ -4,7 +4,7 @@ use Prim.Native.Nat.{ℕ, suc, _+_, _*_}
 use lib.ListN.{length}
 use Rattle.matching.specs.Pairs.{Points, ι}
 use Rattle.matching.specs.Steps.{Step, leaf, ring, chain, apply, outweighs}
-use Rattle.cellfile.specs.Row.{rowWords}
+use Rattle.rows.specs.Row.{rowWords}
 
 -- The word that closes a step's part: its rule and cells, the number of pairs in its row, and of a chain whether the
 -- present points of u, v are greater than H(P) minus H(Q).

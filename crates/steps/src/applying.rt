@@ -2,7 +2,6 @@
 use crate::finding;
 use crate::finding::Found;
 use crate::taking;
-use cellfile::row;
 use slots::change;
 use slots::read;
 ghost use mathlib.Core.Path.{_≡_};
@@ -145,7 +144,7 @@ fn raise_pair(w1: &mut [u64], w2: &mut [u64], e: usize, u: usize, v: usize, k: u
     ensures { λ r. ⌜ PairRaised e (now (w1 .entry)) (now (w2 .entry)) (now (w1 .exit)) (now (w2 .exit)) u v k r ⌝ }
 {
     let before = free_pair(w1, w2, e, u, v);
-    let slots = put_pair(w1, w2, e, u, v, row::larger(before, k));
+    let slots = put_pair(w1, w2, e, u, v, rows::larger(before, k));
     Raised {
         slots,
         more: exceeds(before, k),
@@ -222,7 +221,7 @@ fn take_ring(
     let cleared = clear_row(w1, w2, e, t, u, f, i, u);
     let pairs = cleared.pairs;
     let end = t + pairs;
-    let points = row::ring_points(&w2[t..end]);
+    let points = rows::ring_points(&w2[t..end]);
     let slots = put_pair(w1, w2, cleared.slots, u, z, points.whole - points.less_u);
     w2[end] = closing_word(RING, u, 0, z, pairs, 0);
     Taken {
@@ -251,7 +250,7 @@ fn take_chain(
     let cleared = clear_row(w1, w2, e, t, u, f, i, v);
     let pairs = cleared.pairs;
     let end = t + pairs;
-    let points = row::chain_points(&w2[t..end]);
+    let points = rows::chain_points(&w2[t..end]);
     let q = points.inner;
     let raised = put_ends(
         w1,

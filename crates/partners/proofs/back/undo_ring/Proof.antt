@@ -1,4 +1,6 @@
--- `undo_ring` takes the pair that the step put out of the table, marks the part to put in, and puts it.
+-- `undo_ring` takes the pair that the step put out of the table, clears the marks, marks the part to put in,
+-- and puts it.
+use mathlib.Core.Path.{_∙_}
 use Rattle.partners.proofs.Undoing.{ring-below, ring-asks, ring-put, ring-back}
 use borrow.Author.Needs.{needs}
 use Rattle.partners.proofs.back.undo_ring.Statement.{statement}
@@ -9,6 +11,9 @@ free-ring-requires c κs = ring-below (c .before .before .before .pre)
 
 add-end : tie.Need-add-end
 add-end c = search needs
+
+clear-requires : tie.Need-clear-requires
+clear-requires c κs = search needs
 
 mul-mark-ring : tie.Need-mul-mark-ring
 mul-mark-ring c = search needs
@@ -24,15 +29,18 @@ part-mark-ring-end c = search needs
 
 mark-ring-requires : tie.Need-mark-ring-requires
 mark-ring-requires c κs =
-    let f = c .before .before .before .before .before in
+    let x = c .before .before .before .before .before in
+    let f = x .before .before .before .before in
     ring-asks (f .before .before .before .before .pre) (f .free-ring .ensures) (f .free-ring .kept .0)
+    (x .clear .ensures)
 
 put-marked-requires : tie.Need-put-marked-requires
 put-marked-requires c κs =
     let k = c .before .before .before .before in
-    let f = k .before .before .before .before .before .before in
+    let x = k .before .before .before .before .before .before in
+    let f = x .before .before .before .before in
     ring-put (f .before .before .before .before .pre) (f .free-ring .ensures) (f .free-ring .kept .0)
-    (k .mark-ring .last .1 .1 .0) (k .mark-ring .kept .1 .1 .0) (k .mark-ring .ensures)
+    (k .mark-ring .last .1 .1 .0) (k .mark-ring .kept .1 .1 .0 ∙ x .clear .kept .0) (k .mark-ring .ensures)
 
 same-length : tie.Need-same-length
 same-length c = search needs
@@ -44,9 +52,11 @@ returns : tie.Need-returns
 returns c b =
     let p = c .before .before in
     let k = p .before .before .before .before .before in
-    let f = k .before .before .before .before .before .before in
+    let x = k .before .before .before .before .before .before in
+    let f = x .before .before .before .before in
     ring-back b (f .free-ring .ensures) (f .free-ring .kept .0)
-    (k .mark-ring .last .1 .1 .0) (k .mark-ring .kept .1 .1 .0) (k .mark-ring .ensures) (p .put-marked .ensures)
+    (k .mark-ring .last .1 .1 .0) (k .mark-ring .kept .1 .1 .0 ∙ x .clear .kept .0) (k .mark-ring .ensures)
+    (p .put-marked .ensures)
 
 pub undo-ring-spec : {M : Type 1} → statement M
 undo-ring-spec =
@@ -54,6 +64,7 @@ undo-ring-spec =
     (tie.spec
     free-ring-requires
     add-end
+    clear-requires
     mul-mark-ring
     sub-mark-ring
     part-mark-ring-start
