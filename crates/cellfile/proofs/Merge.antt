@@ -1,6 +1,7 @@
 -- The merge of entries and pairs, both ascending, finds the pairs and their points (`merged-is`). Assumes nothing.
 -- The cells of an entry and of a pair are in their order and below 1,024, so the two are the same where their keys are
--- equal (`keyT`). In order: keys; what ascends; what an entry says of a pair, by their keys; the merge.
+-- equal (`keyT`). In order: keys; what ascends (`entries-above`, `pairs-above`); what an entry says of a pair, by
+-- their keys; the merge.
 use mathlib.Core.Path.{_≡_, refl, ap₂, _∙_}
 use mathlib.Core.Logic.{_⊎_, inl, inr, _≢_}
 use mathlib.Core.Bool.{Bool, true, cond}
@@ -63,6 +64,19 @@ ascending-all f P low (x ∷ xs) g s =
     let t = ascending-cons low (f x) (map f xs) s in
     (g x (t .0), ascending-all f P (suc (f x)) xs (λ y h. g y (omega arith)) (t .1))
 
+-- After an entry whose key is not below the pair's all entries are above the pair; after a pair whose key is not below the
+-- entry's all pairs are above the entry.
+pub entries-above : (e : Entry) (es : List Entry) (p : Pair) → ascendingFrom (suc (entryKey e)) (map entryKey es) ≡ true
+    → pairKey p ≤ entryKey e → All (λ (x : Entry). pairKey p < entryKey x) es
+entries-above e es p s h =
+    ascending-all entryKey (λ x. pairKey p < entryKey x) (suc (entryKey e)) es (λ x k. omega arith) s
+
+pub pairs-above : (e : Entry) (p : Pair) (ps : List Pair) → Ordered (p .0) (p .1)
+    → ascendingFrom (suc (p .0)) (map (λ (x : Pair). x .0) ps) ≡ true → entryKey e ≤ pairKey p
+    → All (λ (x : Pair). entryKey e < pairKey x) ps
+pairs-above e p ps o s h =
+    ascending-all (λ x. x .0) (λ x. entryKey e < pairKey x) (suc (p .0)) ps (λ x k. omega arith) s
+
 -- Entries whose keys are above the pair's say nothing of it.
 pub not-joined : (es : List Entry) (p : Pair) → OrderedEntries es → Ordered (p .0) (p .1)
     → All (λ (e : Entry). pairKey p < entryKey e) es
@@ -123,22 +137,17 @@ merged-is (e ∷ es) (p ∷ ps) low low' found o s q r =
     u : (low' ≤ p .0) × (ascendingFrom (suc (p .0)) (map (λ (x : Pair). x .0) ps) ≡ true)
     u = ascending-cons low' (p .0) (map (λ (x : Pair). x .0) ps) r
 
-    above : pairKey p ≤ entryKey e → All (λ (x : Entry). pairKey p < entryKey x) es
-    above h = ascending-all entryKey (λ x. pairKey p < entryKey x) (suc (entryKey e)) es (λ x k. omega arith) (t .1)
-
-    later : entryKey e ≤ pairKey p → All (λ (x : Pair). entryKey e < pairKey x) ps
-    later h = ascending-all (λ x. x .0) (λ x. entryKey e < pairKey x) (suc (p .0)) ps (λ x k. omega arith) (u .1)
-
     go : {a b : Bool} → Test (pairKey p < entryKey e) (entryKey e ≤ pairKey p) a
         → Test (entryKey e ≡ pairKey p) (entryKey e ≢ pairKey p) b
         → merged es ps (found + e .2) ≡ outcome (join es ps) (found + e .2 + sum (listed es) ps)
         → merged es (p ∷ ps) found ≡ outcome (join es (p ∷ ps)) (found + sum (listed es) (p ∷ ps))
         → cond a (Refused 10) (cond b (merged es ps (found + e .2)) (merged es (p ∷ ps) found))
         ≡ outcome (join (e ∷ es) (p ∷ ps)) (found + sum (listed (e ∷ es)) (p ∷ ps))
-    go (pass h) y i j = rw (not-joined (e ∷ es) p o (q .0) (h, above (omega arith)) .0)
+    go (pass h) y i j = rw (not-joined (e ∷ es) p o (q .0) (h, entries-above e es p (t .1) (omega arith)) .0)
     go (fail h) (pass k) i j =
-        let m = met e es p ps o q k (above (omega arith)) (later h) in
+        let m =
+        met e es p ps o q k (entries-above e es p (t .1) (omega arith)) (pairs-above e p ps (q .0) (u .1) h) in
         i ∙ ap₂ outcome (m .0) (omega (arith, m .1))
     go (fail h) (fail n) i j =
-        let m = past e es (p ∷ ps) (o .0) q (omega arith, later h) in
+        let m = past e es (p ∷ ps) (o .0) q (omega arith, pairs-above e p ps (q .0) (u .1) h) in
         j ∙ ap₂ outcome (m .0) (omega (arith, m .1))

@@ -14,7 +14,7 @@ use Rattle.matching.proofs.Tests.{Test, pass, fail, eqT, ltT, fails, passes}
 use Rattle.matching.proofs.Listed.{joined-apart, listed-apart, listed-same}
 use Rattle.cellfile.specs.Refusals.{ascendingFrom}
 use Rattle.cellfile.proofs.Merge.{Ordered, OrderedEntries, OrderedPairs, entryKey, pairKey, keyT, ascending-cons}
-use Rattle.cellfile.proofs.Merge.{ascending-all, not-joined}
+use Rattle.cellfile.proofs.Merge.{entries-above, pairs-above, not-joined}
 use Rattle.report.specs.Printed.{withPoints}
 use Rattle.report.specs.Writing.{found}
 
@@ -65,27 +65,22 @@ found-is (e ∷ es) (p ∷ ps) low low′ o s q r j =
     u : (low′ ≤ p .0) × (ascendingFrom (suc (p .0)) (map (λ (x : Pair). x .0) ps) ≡ true)
     u = ascending-cons low′ (p .0) (map (λ (x : Pair). x .0) ps) r
 
-    above : pairKey p ≤ entryKey e → All (λ (x : Entry). pairKey p < entryKey x) es
-    above h = ascending-all entryKey (λ x. pairKey p < entryKey x) (suc (entryKey e)) es (λ x k. omega arith) (t .1)
-
-    later : entryKey e ≤ pairKey p → All (λ (x : Pair). entryKey e < pairKey x) ps
-    later h = ascending-all (λ x. x .0) (λ x. entryKey e < pairKey x) (suc (p .0)) ps (λ x k. omega arith) (u .1)
-
     -- an entry above the pair joins nothing to it, nor do those after it
     not-above : entryKey e ≢ pairKey p → entryKey e < pairKey p
     not-above n = at (ltT (pairKey p) (entryKey e))
       where
         at : {a : Bool} → Test (pairKey p < entryKey e) (entryKey e ≤ pairKey p) a → entryKey e < pairKey p
         at (pass l) =
-            (let z : ⊥ = omega (arith, j .0, not-joined (e ∷ es) p o (q .0) (l, above (omega arith)) .0) in absurd z)
+            let i = not-joined (e ∷ es) p o (q .0) (l, entries-above e es p (t .1) (omega arith)) in
+            (let z : ⊥ = omega (arith, j .0, i .0) in absurd z)
         at (fail l) = omega arith
 
     -- the entry of the pair has its cells and its points
     met : entryKey e ≡ pairKey p → e ≡ pointed (e ∷ es) p
     met k =
         let y = passes (keyT (e .0) (e .1) (p .0) (p .1) (o .0) (q .0)) (λ n. n k) in
-        let v : e .2 ≡ listed (e ∷ es) (p .0) (p .1) =
-        omega (arith, listed-same e es (p .0) (p .1) y, not-joined es p (o .1) (q .0) (above (omega arith)) .1) in
+        let i = not-joined es p (o .1) (q .0) (entries-above e es p (t .1) (omega arith)) in
+        let v : e .2 ≡ listed (e ∷ es) (p .0) (p .1) = omega (arith, listed-same e es (p .0) (p .1) y, i .1) in
         let a : e .0 ≡ p .0 = omega (arith, k, o .0, q .0) in
         let b : e .1 ≡ p .1 = omega (arith, k, o .0, q .0) in
         ap (λ (x : ℕ). (x, e .1, e .2)) a ∙ ap (λ (x : ℕ). (p .0, x, e .2)) b ∙ ap (λ (x : ℕ). (p .0, p .1, x)) v
@@ -95,11 +90,11 @@ found-is (e ∷ es) (p ∷ ps) low low′ o s q r j =
         → (Joined es (p ∷ ps) → found es (p ∷ ps) ≡ withPoints es (p ∷ ps))
         → cond b (e ∷ found es ps) (found es (p ∷ ps)) ≡ withPoints (e ∷ es) (p ∷ ps)
     go (pass k) f g =
-        let all = past-all e es ps (o .0) (q .1) (later (omega arith)) (j .1) in
+        let all = past-all e es ps (o .0) (q .1) (pairs-above e p ps (q .0) (u .1) (omega arith)) (j .1) in
         ap₂ _∷_ (met k) (f (all .0) ∙ all .1)
     go (fail n) f g =
         let l = not-above n in
-        let all = past-all e es (p ∷ ps) (o .0) q (l, later (omega arith)) j in
+        let all = past-all e es (p ∷ ps) (o .0) q (l, pairs-above e p ps (q .0) (u .1) (omega arith)) j in
         g (all .0) ∙ all .1
 
 -- ---- the sum
