@@ -1,7 +1,7 @@
 -- The scan over cells and their slots for the first step of a rule. In order: what a slot shows (`slot-gone`,
--- `slot-leaf`, `slot-row`); the slots of a cell (`unmet-off`, `unmet-start`, `unmet-on`, `unmet-end`); the cells
--- (`Barren`, `scan-none`, `scan-some`); a scan that leaves out cells without a leaf (`from-low`); the first step of all
--- rules (`first-leaf`, `first-ring`, `first-chain`).
+-- `slot-leaf`, `slot-row`); the slots of a cell (`unmet-none`, `unmet-off`, `unmet-start`, `unmet-on`, `unmet-gone`,
+-- `unmet-end`); the cells (`Barren`, `scan-none`, `scan-some`); a scan that leaves out cells without a leaf (`from-low`);
+-- the first step of all rules (`first-leaf`, `first-ring`, `first-chain`).
 use mathlib.Core.Path.{_≡_, refl, sym, ap, ap₂, subst, _∙_, fun-ext}
 use mathlib.Core.Logic.{_⊎_, inl, inr, _≢_, ⊎-elim}
 use mathlib.Core.Bool.{Bool, true, false, cond}
@@ -31,7 +31,7 @@ use Rattle.slots.proofs.Graphs.{holds-graph}
 use Rattle.slots.proofs.Holding.{joins-pair, joins-one}
 use Rattle.slots.proofs.Scanning.{joins-turned, joins-some, joins-has}
 use Rattle.steps.specs.Finding.{told, toTell, Finds, degreeOf, stepFrom}
-use Rattle.steps.specs.Finding.{StepBy, StepAtSlot, FindsBy, FindsAt, Unmet, Quiet}
+use Rattle.steps.specs.Finding.{Unnamed, StepBy, StepAtSlot, FindsBy, FindsAt, Unmet, Quiet}
 use Rattle.steps.specs.declared.finding.Found.{Found}
 use Rattle.steps.specs.declared.finding.Step as declared
 use Rattle.steps.specs.declared.finding.Step.the-variants as found
@@ -62,12 +62,11 @@ told-some (found.Chain u v z) k none e = absurd (omega (arith, ap (λ (x : Answe
 module _ {e : ℕ} {w1 w2 : List ℕ} (h : Holds e w1 w2) where
   -- ---- what a slot shows
 
+  none-gone : (r : Rule) {c i : ℕ} → getD w1 i 0 ≡ 0 → StepAtSlot e w1 r c i none
+  none-gone r z = λ f j. absurd (omega (arith, j .live))
+
   pub slot-gone : {r : Rule} {c i : ℕ} {x : Found} → getD w1 i 0 ≡ 0 → told (x .step) ≡ (0, []) → FindsAt e w1 r c i x
-  slot-gone z q = record {
-    found = none;
-    is = λ f j. absurd (omega (arith, j .live));
-    finds = record { step = q; way = tt };
-  }
+  slot-gone {r} z q = record { found = none; is = none-gone r z; finds = record { step = q; way = tt } }
 
   pub slot-leaf : {c f i : ℕ} → Joins e w1 i c f → degree 1024 (graphOf e w1) c ≡ 1
       → FindsAt e w1 by-leaf c i (record { step = found.Leaf c f; first = f; slot = i })
@@ -110,14 +109,17 @@ module _ {e : ℕ} {w1 w2 : List ℕ} (h : Holds e w1 w2) where
   step-degree by-ring c (ring u z inner) p = rw (← p .0) (p .1 .row .two z (p .1 .low .here))
   step-degree by-chain c (chain u v z inner) p = rw (← p .0) (p .1 .row .two z (p .1 .low .here))
 
-  -- another degree
-  pub unmet-off : {r : Rule} {c : ℕ} → degree 1024 (graphOf e w1) c ≢ degreeOf r → Unmet e w1 r c 0
-  unmet-off {r} {c} d = record {
+  -- no step is named by c, as where it has another degree
+  pub unmet-none : {r : Rule} {c : ℕ} → Unnamed (graphOf e w1) r c → Unmet e w1 r c 0
+  unmet-none n = record {
     top = omega arith;
     has = λ k q. absurd (omega arith);
     fits = λ k q. absurd (omega arith);
-    past = λ j l f k s p m. d (step-degree r c s p);
+    past = λ j l f k s p m. n s p;
   }
+
+  pub unmet-off : {r : Rule} {c : ℕ} → degree 1024 (graphOf e w1) c ≢ degreeOf r → Unmet e w1 r c 0
+  unmet-off {r} {c} d = unmet-none (λ s p. d (step-degree r c s p))
 
   pub unmet-start : {r : Rule} {c i : ℕ} → degree 1024 (graphOf e w1) c ≡ degreeOf r → LastSlot w1 c e i
       → Unmet e w1 r c i
@@ -146,6 +148,9 @@ module _ {e : ℕ} {w1 w2 : List ℕ} (h : Holds e w1 w2) where
         at j a (pass q) y = rw q miss
         at j a (fail d) (pass b) = λ f m s p y. clash (joins-has m) (l .past j a b)
         at j a (fail d) (fail b) = n .past j (omega arith)
+
+    pub unmet-gone : getD w1 k 0 ≡ 0 → {i : ℕ} → LastSlot w1 c k i → Unmet e w1 r c i
+    unmet-gone z = unmet-on (none-gone r z)
 
   -- no slot is left
   pub unmet-end : {r : Rule} {c : ℕ} → Unmet e w1 r c 0 → (s : Step) → IsStep 1024 (graphOf e w1) r c s → ⊥

@@ -1,7 +1,7 @@
 // Finding a step: see specs/Walks and specs/Finding.
 use slots::read;
 ghost use mathlib.Core.Path.{_≡_};
-ghost use mathlib.Core.Logic.{_≢_};
+ghost use mathlib.Core.Logic.{_⊎_, _≢_};
 ghost use mathlib.Core.Bool.{true};
 ghost use mathlib.Core.List.{[]};
 ghost use Prim.Native.Nat.{_+_, _<_, _≤_};
@@ -121,62 +121,12 @@ fn is_chain(w1: &[u64], w2: &[u64], e: usize, u: usize, p: usize, before: usize,
     read::degree(w1, w2, e, end) != 2
 }
 
-// Whether lower cells of degree two stand on the row of z, which slot i leaves at f, so that none is named by z: one for
-// a chain; for a ring two, or one and a cell of another degree. Both ways are walked in turns, until they meet.
-fn lower_cells(w1: &[u64], w2: &[u64], e: usize, rule: u64, z: usize, f: usize, i: usize) -> bool
-    requires { ⌜ (Holds e (now w1) (now w2)) × Joins e (now w1) i z f × (f < 1024) × (z < 1024) × (rule ≢ 1)
-        × (degree 1024 (graphOf e (now w1)) z ≡ 2) ⌝ }
-    ensures { λ r. ⌜ (r ≡ true → Unnamed (graphOf e (now (w1 .entry))) (ruleOf rule) z) ⌝ }
-{
-    let other = read::step_on(w1, w2, e, z, f, i);
-    let mut last = z;
-    let mut at = f;
-    let mut slot = i;
-    let mut next_last = z;
-    let mut next_at = other.partner;
-    let mut next_slot = other.slot;
-    let mut seen = z;
-    let mut left: usize = 2048;
-    while 0 < left {
-        left -= 1;
-        if at == next_last {
-            return false;
-        }
-        if read::degree(w1, w2, e, at) != 2 {
-            return seen != z;
-        }
-        if at < z {
-            if rule != RING {
-                return true;
-            }
-            if seen != z {
-                if seen != at {
-                    return true;
-                }
-            }
-            seen = at;
-        }
-        let on = read::step_on(w1, w2, e, at, last, slot);
-        let passed = at;
-        last = next_last;
-        at = next_at;
-        slot = next_slot;
-        next_last = passed;
-        next_at = on.partner;
-        next_slot = on.slot;
-    }
-    false
-}
-
 // The ring or the chain at z that is met by slot i at f.
 fn row_by(w1: &[u64], w2: &[u64], e: usize, rule: u64, z: usize, f: usize, i: usize) -> Found
     requires { ⌜ (Holds e (now w1) (now w2)) × Joins e (now w1) i z f × (f < 1024) × (z < 1024) × (rule ≢ 1)
         × (degree 1024 (graphOf e (now w1)) z ≡ 2) ⌝ }
     ensures { λ r. ⌜ FindsBy e (now (w1 .entry)) (ruleOf rule) z f r ⌝ }
 {
-    if lower_cells(w1, w2, e, rule, z, f, i) {
-        return nothing();
-    }
     let a = walk(w1, w2, e, z, f, i, z + 1);
     let u = a.end;
     let first = a.last;
@@ -238,7 +188,68 @@ fn degree_of(rule: u64) -> u64
     2
 }
 
-// The last slot of c, its number + 1, where c has the degree that the rule asks for; else 0.
+// Whether z is ruled out where the two ways out of it have met, so that its row is a ring of cells of degree two: there is
+// no chain then, and a ring is not named by its lowest cell. One way came from `last`, where the other goes on: `next`.
+fn ring_rules_out(rule: u64, z: usize, seen: usize, last: usize, next: usize) -> bool
+    ensures { λ r. ⌜ (r ≡ true → (next ≡ last) × ((rule ≢ 2) ⊎ (seen ≡ z))) ⌝ }
+{
+    if next != last {
+        return false;
+    }
+    if rule != RING {
+        return true;
+    }
+    seen == z
+}
+
+// Whether the row of z, which slot i leaves at f, shows that no ring and no chain is named by z. Both ways are walked in
+// turns until lower cells of degree two are seen, one for a chain, for a ring two, or one and a cell of another degree; or
+// until the ways meet.
+fn ruled_out(w1: &[u64], w2: &[u64], e: usize, rule: u64, z: usize, f: usize, i: usize) -> bool
+    requires { ⌜ (Holds e (now w1) (now w2)) × Joins e (now w1) i z f × (f < 1024) × (z < 1024) × (rule ≢ 1)
+        × (degree 1024 (graphOf e (now w1)) z ≡ 2) ⌝ }
+    ensures { λ r. ⌜ (r ≡ true → Unnamed (graphOf e (now (w1 .entry))) (ruleOf rule) z) ⌝ }
+{
+    let other = read::step_on(w1, w2, e, z, f, i);
+    let mut last = z;
+    let mut at = f;
+    let mut slot = i;
+    let mut next_last = z;
+    let mut next_at = other.partner;
+    let mut next_slot = other.slot;
+    let mut seen = z;
+    let mut left: usize = 2048;
+    while 0 < left {
+        left -= 1;
+        if at == next_last {
+            return ring_rules_out(rule, z, seen, last, next_at);
+        }
+        if read::degree(w1, w2, e, at) != 2 {
+            return seen != z;
+        }
+        if at < z {
+            if rule != RING {
+                return true;
+            }
+            if seen != z {
+                if seen != at {
+                    return true;
+                }
+            }
+            seen = at;
+        }
+        let on = read::step_on(w1, w2, e, at, last, slot);
+        last = next_last;
+        next_last = at;
+        at = next_at;
+        slot = next_slot;
+        next_at = on.partner;
+        next_slot = on.slot;
+    }
+    false
+}
+
+// The last live slot of c, its number + 1, where c has the degree that the rule asks for and is not ruled out; else 0.
 fn start(w1: &[u64], w2: &[u64], e: usize, rule: u64, c: usize) -> usize
     requires { ⌜ (Holds e (now w1) (now w2)) × (c < 1024) ⌝ }
     ensures { λ r. ⌜ Unmet e (now (w1 .entry)) (ruleOf rule) c r ⌝ }
@@ -246,7 +257,22 @@ fn start(w1: &[u64], w2: &[u64], e: usize, rule: u64, c: usize) -> usize
     if read::degree(w1, w2, e, c) != degree_of(rule) {
         return 0;
     }
-    read::last_slot(w1, w2, e, c)
+    let mut i = read::last_slot(w1, w2, e, c);
+    while 0 < i {
+        let at = i - 1;
+        if w1[at] != 0 {
+            if rule == LEAF {
+                return i;
+            }
+            let f = read::partner(w1, w2, e, c, at);
+            if ruled_out(w1, w2, e, rule, c, f, at) {
+                return 0;
+            }
+            return i;
+        }
+        i = read::slot_before(w1, w2, e, c, at);
+    }
+    0
 }
 
 // The first step of a rule at the cells from `from` to before `to`: it is the first that is allowed.

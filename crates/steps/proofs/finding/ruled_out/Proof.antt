@@ -1,15 +1,18 @@
--- `lower_cells` walks both ways in turns. Invariant: both ways stand on the row of z, and a cell seen is a lower one.
+-- `ruled_out` walks both ways in turns. Invariant: both ways stand on the row of z, a cell seen is a lower one, and the
+-- partners of the cells passed are passed, or a way stands at them.
 use mathlib.Core.Path.{_∙_, refl}
 use mathlib.Core.Logic.{inl, inr, ⊎-elim}
 use native.Mathlib.Omega.{arith}
 use Rattle.matching.proofs.Members.{clash}
 use Rattle.matching.proofs.Tests.{holds, notT, eqT}
+use Rattle.slots.proofs.Graphs.{holds-graph}
 use Rattle.slots.proofs.Scanning.{joins-turned}
 use Rattle.steps.specs.Finding.{ruleOf}
 use Rattle.steps.proofs.Rowed.{rule-row, rule-chain}
 use Rattle.steps.proofs.Lower.{Turns, turns-start, turns-on, lower-chain, lower-two, lower-other}
-use Rattle.steps.proofs.finding.lower_cells.Statement.{statement}
-use Rattle.steps.proofs.finding.lower_cells.Tie as tie
+use Rattle.steps.proofs.Lower.{met-chain, met-lowest}
+use Rattle.steps.proofs.finding.ruled_out.Statement.{statement}
+use Rattle.steps.proofs.finding.ruled_out.Tie as tie
 
 abbrev Inv-loop : tie.InvT-loop
 Inv-loop w1 w2 e rule z f i _ _ _ _ _ _ _ _ last at slot next-last next-at next-slot seen left =
@@ -31,8 +34,18 @@ loop-holds c =
 sub-left : tie.Need-sub-left Inv-loop μ-loop
 sub-left c = omega (arith, c .loop-test .taken)
 
+ring-rules-out-requires : tie.Need-ring-rules-out-requires Inv-loop μ-loop
+ring-rules-out-requires c κs = tt
+
 returns : tie.Need-returns Inv-loop μ-loop
-returns c = λ q. clash q refl
+returns c =
+    let l = c .before .before .before in
+    let s = l .before .before .before .before .pre in
+    let g = holds-graph (s .0) in
+    let p = l .loop .inv .passed in
+    let a = c .before .if1 .taken in
+    λ q. let m = c .ring-rules-out .ensures q in
+    ⊎-elim (λ n. met-chain g p (rule-chain (s .4) n) a (m .0)) (λ k. met-lowest g p _ (rule-row (s .4)) a (m .0) k) (m .1)
 
 degree-requires : tie.Need-degree-requires Inv-loop μ-loop
 degree-requires c κs =
@@ -86,14 +99,14 @@ loop-again c =
     let s = l .before .before .before .before .pre in
     turns-on (s .0) (rule-row (s .4)) (l .loop .inv)
     (omega (arith, c .before .before .before .degree .ensures, c .before .before .if2 .left))
-    (⊎-elim (λ k. inl (k .0 .taken, k .4)) (⊎-elim (λ k. inl (k .0 .taken, k .3)) (λ k. inr (k .1)))
+    (⊎-elim (λ k. inl (k .0 .taken, k .4)) (⊎-elim (λ k. inl (k .0 .taken, k .3)) (λ k. inr (k .0 .left, k .1)))
     (c .before .if3 .came)) (c .step-on2 .ensures)
 
 returns-5 : tie.Need-returns-5 Inv-loop μ-loop
 returns-5 c = λ q. clash q refl
 
-pub lower-cells-spec : {M : Type 1} → statement M
-lower-cells-spec =
+pub ruled-out-spec : {M : Type 1} → statement M
+ruled-out-spec =
     tie.close
     (tie.spec
     Inv-loop
@@ -101,6 +114,7 @@ lower-cells-spec =
     step-on-requires
     loop-holds
     sub-left
+    ring-rules-out-requires
     returns
     degree-requires
     returns-2
