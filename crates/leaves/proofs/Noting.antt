@@ -1,19 +1,19 @@
 -- The words of a run. In order: a part of a buffer that is filled word by word (`part-start`, `part-on`), the trail and
 -- the names so far (`Words`): how they start (`words-start`), a step more (`words-on`), and that words aside do not
 -- change them (`words-kept`); the trail of leaf steps (`trail-leaves`). Assumes nothing.
-use mathlib.Core.Path.{_≡_, refl, sym, ap, ap₂, _∙_}
+use mathlib.Core.Path.{_≡_, refl, sym, ap, _∙_}
 use mathlib.Core.Logic.{inl, inr}
 use mathlib.Core.List.{List, [], _∷_, _++_, map, map-append, append-nil, append-assoc}
 use Prim.Native.Nat.{ℕ, suc, _+_, _≤_, _<_}
 use native.Mathlib.Omega.{arith}
-use lib.ListN.{length, getD, set, take, drop, length-append, length-drop, length-set}
-use lib.Seq.{ext-getD, getD-drop, take-set-le, take-suc-set, drop-set-lt, drop-set-add}
+use lib.ListN.{length, set, take, drop, length-append, length-drop}
+use lib.Seq.{take-set-le, take-suc-set, drop-set-lt, drop-set-add}
 use Rattle.matching.specs.Pairs.{Points}
 use Rattle.matching.specs.Steps.{leaf, apply}
 use Rattle.slots.specs.Slots.{Aside}
 use Rattle.steps.specs.Trail.{closing, stepWords, trail}
-use Rattle.steps.proofs.Taken.{take-same}
-use Rattle.leaves.specs.Runs.{leavesAt, leafNames, Words, leafWords}
+use Rattle.steps.proofs.Taken.{take-same, drop-same}
+use Rattle.leaves.specs.Runs.{leavesAt, Words, leafWords}
 
 -- ---- a part that is filled
 
@@ -57,13 +57,6 @@ module _ {t k u : ℕ} {cells w2 w2′ : List ℕ} (h : Words t k u cells w2 w2�
         ∙ part-on (λ x. 1024 + x) k (drop 6144 w2) (drop 6144 w2′) cells v (h .names)
         (omega (arith, length-drop 6144 w2′));
   }
-
--- words from a place on that did not change
-drop-same : (w w′ : List ℕ) (t : ℕ) → length w′ ≡ length w → ((j : ℕ) → t ≤ j → getD w′ j 0 ≡ getD w j 0)
-    → drop t w′ ≡ drop t w
-drop-same w w′ t l h =
-    ext-getD 0 (drop t w′) (drop t w) (omega (arith, length-drop t w′, length-drop t w))
-    (λ i k. getD-drop t w′ i 0 ∙ h (t + i) (omega arith) ∙ sym (getD-drop t w i 0))
 
 -- words aside of these
 pub words-kept : {t k u : ℕ} {cells w2 w2′ w2″ : List ℕ} → Words t k u cells w2 w2′ → Aside w2′ w2″

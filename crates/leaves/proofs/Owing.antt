@@ -7,7 +7,7 @@ use mathlib.Core.Logic.{_⊎_, inl, inr, _≢_}
 use mathlib.Core.Bool.{Bool, true, false, cond}
 use mathlib.Core.List.{List, [], _∷_, _++_, map-append}
 use mathlib.Core.Option.{Option, some, none}
-use Prim.Native.Nat.{ℕ, suc, _+_, _-_, _≤_, _<_}
+use Prim.Native.Nat.{ℕ, _+_, _-_, _≤_, _<_}
 use native.Mathlib.Omega.{arith}
 use lib.Dec.{eqb, ltb}
 use lib.ListN.{length, length-append, length-map}
@@ -15,7 +15,7 @@ use borrow.Author.Tests.{lt-ltb, le-ltb}
 use Rattle.matching.specs.Lists.{mem}
 use Rattle.matching.specs.Pairs.{Points, touches}
 use Rattle.matching.specs.Graph.{Graph, partners, degree}
-use Rattle.matching.specs.Steps.{Step, leaf, leafed, apply, carry}
+use Rattle.matching.specs.Steps.{Step, leaf, leafed}
 use Rattle.matching.specs.Shapes.{IsLeaf}
 use Rattle.matching.specs.Find.{firstStep}
 use Rattle.matching.specs.Slip.{left, carried, reduce}

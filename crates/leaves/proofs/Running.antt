@@ -2,14 +2,14 @@
 -- (`running-pass`), takes a step (`running-take`), and what it leaves (`running-end`); after the pairs at u have lost
 -- what is owed (`run-taken`); no run (`run-none`). Assumes nothing.
 use mathlib.Core.Path.{_≡_, refl, sym, ap, subst, _∙_}
-use mathlib.Core.Logic.{_⊎_, inl, inr, _≢_}
+use mathlib.Core.Logic.{inl, inr, _≢_}
 use mathlib.Core.Bool.{Bool}
 use mathlib.Core.List.{List, [], _∷_, _++_}
 use Prim.Native.Nat.{ℕ, _+_, _≤_, _<_}
 use native.Mathlib.Omega.{arith}
-use lib.ListN.{length, set, length-append, length-set}
+use lib.ListN.{length, set, length-append}
 use Rattle.matching.specs.Pairs.{Points}
-use Rattle.matching.specs.Graph.{Graph, degree}
+use Rattle.matching.specs.Graph.{degree}
 use Rattle.matching.proofs.Tests.{Test, pass, fail, eqT}
 use Rattle.slots.specs.Slots.{Holds, graphOf, Changed, lessAll}
 use Rattle.slots.proofs.Holding.{holds-room, holds-aside}
@@ -17,7 +17,6 @@ use Rattle.steps.specs.Finding.{Quiet}
 use Rattle.steps.specs.Trail.{closing}
 use Rattle.leaves.specs.Runs.{RunThere, Slack, Due, Words, Owes, Taken}
 use Rattle.leaves.specs.declared.Owed.{Owed}
-use Rattle.leaves.specs.declared.LeafRun.{LeafRun}
 use Rattle.leaves.proofs.Owing.{Owing, owing-start, owing-pass, owing-take, owing-quiet}
 use Rattle.leaves.proofs.Noting.{words-start, words-on, words-kept}
 

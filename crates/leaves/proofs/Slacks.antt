@@ -2,21 +2,20 @@
 -- the loop over the slots of u: what holds of the slots passed (`Slacks`): how it starts
 -- (`slacks-start`), passes a slot (`slacks-on`), and what it shows at its end (`slacks-end`). Assumes nothing.
 use mathlib.Core.Path.{_≡_, refl, sym, ap, _∙_}
-use mathlib.Core.Logic.{inl, inr, _≢_}
-use mathlib.Core.Bool.{Bool, true}
+use mathlib.Core.Logic.{inl, inr}
+use mathlib.Core.Bool.{true}
 use mathlib.Core.List.{List, [], _∷_}
 use Prim.Native.Nat.{ℕ, suc, _+_, _-_, _≤_, _<_}
 use native.Mathlib.Omega.{arith}
 use lib.ListN.{getD}
 use Rattle.matching.specs.Pairs.{touches}
 use Rattle.matching.specs.Graph.{degree}
-use Rattle.matching.proofs.Tests.{Test, pass, fail, eqT, ltT}
 use Rattle.matching.proofs.Members.{clash}
 use Rattle.slots.specs.Slots.{Holds, graphOf, lowOf, highOf, Joins}
 use Rattle.slots.specs.Found.{LastSlot, Only}
 use Rattle.slots.specs.declared.read.Other.{Other}
 use Rattle.slots.proofs.Graphs.{joins-points}
-use Rattle.slots.proofs.Scanning.{slot-joins, joins-turned, joins-some, joins-has}
+use Rattle.slots.proofs.Scanning.{slot-joins, joins-turned, joins-some, joins-has, slots-on}
 use Rattle.steps.proofs.Scans.{joins-same}
 use Rattle.leaves.specs.Runs.{Kept, Slack, Due}
 
@@ -67,14 +66,10 @@ module _ {e : ℕ} {w1 w2 : List ℕ} (h : Holds e w1 w2) {u : ℕ} where
     top = omega (arith, l .low, s .top);
     has = l .at;
     bound = omega (arith, s .bound);
-    past = λ j m. at j m (eqT j k) (ltT j k);
+    past = slots-on l (λ j. Kept e w1 u j least′) (λ j o f x d. clash (joins-has x) o)
+        (λ f x d. omega (arith, here f x d)) (λ j m f x d. omega (arith, s .past j (omega arith) f x d));
     stays = y;
   }
-    where
-      at : (j : ℕ) → i ≤ j → {t r : Bool} → Test (j ≡ k) (j ≢ k) t → Test (j < k) (k ≤ j) r → Kept e w1 u j least′
-      at j m (pass z) r = rw z (λ f x d. omega (arith, here f x d))
-      at j m (fail d) (pass c) = λ f x n. clash (joins-has x) (l .past j m c)
-      at j m (fail d) (fail c) = λ f x n. omega (arith, s .past j (omega arith) f x n)
 
   pub slacks-end : {least most r : ℕ} → Slacks e w1 u least most 0 → (r ≤ least) × (r ≤ most) → Slack (graphOf e w1) u r
   slacks-end {least} {most} {r} s (a, b) = record {

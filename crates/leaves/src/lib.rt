@@ -11,7 +11,7 @@ ghost use mathlib.Core.Bool.{true};
 ghost use Prim.Native.Nat.{_+_, _<_, _≤_};
 ghost use lib.ListN.{length, set};
 ghost use Rattle.matching.specs.Pairs.{touches};
-ghost use Rattle.matching.specs.Graph.{Graph, degree};
+ghost use Rattle.matching.specs.Graph.{Graph};
 ghost use Rattle.slots.specs.Slots.{Holds, graphOf, lowOf, highOf};
 ghost use Rattle.steps.specs.Finding.{Quiet};
 ghost use Rattle.steps.specs.Trail.{closing};

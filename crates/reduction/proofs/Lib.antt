@@ -4,6 +4,7 @@ pub mod Placing
 pub mod Listing
 pub mod Coursing
 pub mod Runs
+pub mod LeafRuns
 pub mod Layers
 pub mod Courses
 pub mod Ends

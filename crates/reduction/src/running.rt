@@ -75,15 +75,6 @@ fn next(
     finding::first_step(w1, w2, e, n, low)
 }
 
-fn least(a: usize, b: usize) -> usize
-    ensures { λ r. ⌜ (r ≤ a) × (r ≤ b) ⌝ }
-{
-    if a < b {
-        return a;
-    }
-    b
-}
-
 const MOST_STEPS: usize = 1024;
 
 const TRAIL_WORDS: usize = 4096;
@@ -96,7 +87,8 @@ fn spare(m: usize, more: usize, k: usize, trail: usize) -> usize
     if k < m {
         return 0;
     }
-    least(least(MOST_STEPS - k, TRAIL_WORDS - trail), m + more - k)
+    let room = finding::lower(MOST_STEPS - k, TRAIL_WORDS - trail);
+    finding::lower(room, m + more - k)
 }
 
 // Takes the first m steps of the slip, then at most `more` steps as reduce takes them.

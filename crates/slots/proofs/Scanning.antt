@@ -1,6 +1,6 @@
 -- The slots of a cell, for callers that go over them: the last one (`last-slot`), the one before (`slot-before`), the
 -- partner in one (`slot-sum`, `slot-joins`); a slot joins two cells in either order (`joins-turned`); a pair with points
--- has a slot (`joins-some`). Assumes nothing.
+-- has a slot (`joins-some`); what holds of the slots passed (`slots-on`). Assumes nothing.
 use mathlib.Core.Path.{_≡_, refl, sym, ap, _∙_}
 use mathlib.Core.Logic.{inl, inr, _≢_}
 use mathlib.Core.Bool.{Bool, true, false, cond}
@@ -9,7 +9,7 @@ use Prim.Native.Nat.{ℕ, zero, suc, _+_, _-_, _≤_, _<_}
 use native.Mathlib.Omega.{arith}
 use lib.ListN.{getD}
 use Rattle.matching.specs.Pairs.{same, touches}
-use Rattle.matching.proofs.Tests.{Test, pass, fail, ltT, isT, holds, passes}
+use Rattle.matching.proofs.Tests.{Test, pass, fail, eqT, ltT, isT, holds, passes}
 use Rattle.matching.proofs.Pairs.{Same}
 use Rattle.matching.proofs.Sums.{same-turned}
 use Rattle.slots.specs.Slots.{total, store, graph, Holds, graphOf, lowOf, highOf, linkOf, Joins}
@@ -65,6 +65,17 @@ joins-has {e} {w1} {i} {x} {y} j = passes (hasT (store w1 []) i x) (λ n. go n (
     go : (lowOf w1 i ≢ x) × (highOf w1 i ≢ x) → Same (lowOf w1 i) (highOf w1 i) x y → ⊥
     go n (inl q) = n .0 (sym (q .0))
     go n (inr q) = n .1 (sym (q .0))
+
+-- What holds of a slot that has not c, of slot k and of the slots behind it, holds from the last slot of c before k on.
+pub slots-on : {w1 : List ℕ} {c k i : ℕ} → LastSlot w1 c k i → (P : ℕ → Type 0)
+    → ((j : ℕ) → touches c (lowOf w1 j) (highOf w1 j) ≡ false → P j) → P k → ((j : ℕ) → k < j → P j)
+    → (j : ℕ) → i ≤ j → P j
+slots-on {w1} {c} {k} {i} l P off here behind j m = go (eqT j k) (ltT j k)
+  where
+    go : {s t : Bool} → Test (j ≡ k) (j ≢ k) s → Test (j < k) (k ≤ j) t → P j
+    go (pass q) y = rw q here
+    go (fail d) (pass b) = off j (l .past j m b)
+    go (fail d) (fail b) = behind j (omega arith)
 
 -- a sum above zero has a term above zero
 total-some : (f : ℕ → ℕ) (e : ℕ) → 0 < total f e → (i : ℕ) × (i < e) × (0 < f i)

@@ -170,8 +170,8 @@ row-spread P {w} g on {u} {v} {z} {inner} r m p = go z (b .passed) (b .run) (b .
     go x [] t h q = on x u q h
     go x (c ∷ cs) t h q = go c cs (t .1) (t .0 .on) (on x c q h)
 
--- The cells of degree two that both ways have passed, z among them: it is the lowest where it was the lowest seen. A
--- partner of theirs was passed, or a way stands at it.
+-- The cells of degree two that both ways have passed, z among them; z is the lowest of them where no lower one was seen.
+-- A partner of theirs was passed too, or a way stands at it.
 pub record Passed (w : Points) (z last at next-last next-at seen : ℕ) (past : List ℕ) : Type 0 where
   pub named : mem z past ≡ true
   pub here : mem last past ≡ true

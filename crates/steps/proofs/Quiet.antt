@@ -17,7 +17,7 @@ use Rattle.matching.specs.Graph.{Graph, dropped}
 use Rattle.matching.specs.Steps.{Rule, by-leaf, by-ring, by-chain, Step, leaf, ring, chain, leafed, ringed, chained}
 use Rattle.matching.specs.Steps.{apply}
 use Rattle.matching.specs.Shapes.{IsRow, IsLeaf, IsRing, IsChain, IsStep, Lowest}
-use Rattle.matching.proofs.Tests.{Test, pass, fail, isT, eqT, ltT, fails}
+use Rattle.matching.proofs.Tests.{Test, pass, fail, isT, ltT, fails}
 use Rattle.matching.proofs.Members.{clash}
 use Rattle.matching.proofs.Sums.{touchesT}
 use Rattle.matching.proofs.Put.{dropped-out, dropped-most}
@@ -27,7 +27,7 @@ use Rattle.cellfile.specs.Answers.{Answer}
 use Rattle.slots.specs.Slots.{Holds, graphOf, lowOf, highOf, Joins}
 use Rattle.slots.specs.Found.{LastSlot}
 use Rattle.slots.proofs.Degrees.{degree-same}
-use Rattle.slots.proofs.Scanning.{joins-turned, joins-some, joins-has}
+use Rattle.slots.proofs.Scanning.{joins-turned, joins-some, joins-has, slots-on}
 use Rattle.steps.specs.Finding.{told, toTell, Quiet, Near, Quieted}
 use Rattle.steps.specs.declared.finding.Step as declared
 use Rattle.steps.specs.declared.finding.Step.the-variants as found
@@ -148,14 +148,9 @@ module _ {e : ℕ} {w1 : List ℕ} {u low : ℕ} where
     has = l .at;
     most = omega (arith, n .most);
     cell = omega (arith, n .cell);
-    past = λ j f m. at j f m (eqT j k) (ltT j k);
+    past = λ j f m. slots-on l (λ j. (f : ℕ) → Joins e w1 j u f → least′ ≤ f)
+        (λ j o f x. clash (joins-has x) o) here (λ j b f x. omega (arith, n .past j f (omega arith) x)) j m f;
   }
-    where
-      at : (j f : ℕ) → i ≤ j → {s t : Bool} → Test (j ≡ k) (j ≢ k) s → Test (j < k) (k ≤ j) t → Joins e w1 j u f
-          → least′ ≤ f
-      at j f m (pass q) y = rw q (here f)
-      at j f m (fail d) (pass b) = λ x. clash (joins-has x) (l .past j m b)
-      at j f m (fail d) (fail b) = λ x. omega (arith, n .past j f (omega arith) x)
 
   -- no slot is left
   pub lows-end : {least : ℕ} → Lows e w1 u low least 0 → Near (graphOf e w1) u low least

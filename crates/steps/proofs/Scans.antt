@@ -29,7 +29,7 @@ use Rattle.slots.specs.Slots.{Holds, graphOf, lowOf, highOf, Joins}
 use Rattle.slots.specs.Found.{LastSlot}
 use Rattle.slots.proofs.Graphs.{holds-graph}
 use Rattle.slots.proofs.Holding.{joins-pair, joins-one}
-use Rattle.slots.proofs.Scanning.{joins-turned, joins-some, joins-has}
+use Rattle.slots.proofs.Scanning.{joins-turned, joins-some, joins-has, slots-on}
 use Rattle.steps.specs.Finding.{told, toTell, Finds, degreeOf, stepFrom}
 use Rattle.steps.specs.Finding.{Unnamed, StepBy, StepAtSlot, FindsBy, FindsAt, Unmet, Quiet}
 use Rattle.steps.specs.declared.finding.Found.{Found}
@@ -140,14 +140,9 @@ module _ {e : ℕ} {w1 w2 : List ℕ} (h : Holds e w1 w2) where
       top = omega (arith, l .low, n .top);
       has = l .at;
       fits = λ j q. n .fits k refl;
-      past = λ j a. at j a (eqT j k) (ltT j k);
+      past = slots-on l (λ j. StepAtSlot e w1 r c j none) (λ j o f m s p y. clash (joins-has m) o) miss
+          (λ j a. n .past j (omega arith));
     }
-      where
-        at : (j : ℕ) → i ≤ j → {s t : Bool} → Test (j ≡ k) (j ≢ k) s → Test (j < k) (k ≤ j) t
-            → StepAtSlot e w1 r c j none
-        at j a (pass q) y = rw q miss
-        at j a (fail d) (pass b) = λ f m s p y. clash (joins-has m) (l .past j a b)
-        at j a (fail d) (fail b) = n .past j (omega arith)
 
     pub unmet-gone : getD w1 k 0 ≡ 0 → {i : ℕ} → LastSlot w1 c k i → Unmet e w1 r c i
     unmet-gone z = unmet-on (none-gone r z)

@@ -328,7 +328,7 @@ pub fn first_step(w1: &[u64], w2: &[u64], e: usize, n: usize, low: usize) -> Fou
     scan(w1, w2, e, CHAIN, 0, n)
 }
 
-fn lower(a: usize, b: usize) -> usize
+pub fn lower(a: usize, b: usize) -> usize
     ensures { λ r. ⌜ (r ≤ a) × (r ≤ b) ⌝ }
 {
     if a < b {

@@ -1,9 +1,7 @@
 -- `due` by the degree of c and its only partner.
-use mathlib.Core.Path.{refl, sym, ap, _∙_}
+use mathlib.Core.Path.{refl, _∙_}
 use mathlib.Core.Logic.{inl, inr}
 use borrow.Author.Needs.{needs}
-use Rattle.slots.proofs.Graphs.{joins-points}
-use Rattle.slots.proofs.Scanning.{joins-turned}
 use Rattle.leaves.proofs.Slacks.{due-here}
 use Rattle.leaves.proofs.due.Statement.{statement}
 use Rattle.leaves.proofs.due.Tie as tie

@@ -1,5 +1,5 @@
 -- `kept` by whether the slot is live and its other cell a leaf.
-use mathlib.Core.Path.{sym, ap, _∙_}
+use mathlib.Core.Path.{sym, _∙_}
 use borrow.Author.Needs.{needs}
 use Rattle.leaves.proofs.Slacks.{kept-leaf}
 use Rattle.leaves.proofs.kept.Statement.{statement}

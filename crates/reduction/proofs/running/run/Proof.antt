@@ -14,7 +14,8 @@ use Rattle.reduction.specs.Calls.{numberOf}
 use Rattle.reduction.specs.Running.{namesFrom, nextStep, named, toName}
 use Rattle.reduction.proofs.Runs.{Coursing, run-start, run-graph, run-name, run-few, run-there, run-step, run-on}
 use Rattle.reduction.proofs.Runs.{run-length, run-carries, run-quiet, run-refused, run-ends, run-out}
-use Rattle.reduction.proofs.Runs.{run-most, run-more, run-more-carries, found-name, found-none}
+use Rattle.reduction.proofs.Runs.{found-name, found-none}
+use Rattle.reduction.proofs.LeafRuns.{run-most, run-more, run-more-carries}
 use Rattle.reduction.proofs.running.run.Statement.{statement}
 use Rattle.reduction.proofs.running.run.Tie as tie
 
@@ -150,7 +151,7 @@ add-k c =
     let g = c .before .before .before .before .before .before .before .before .before .before .before in
     omega (arith, the-few g)
 
--- after the step that was found: its laws are `run-on` and what follows from it
+-- after the step that was found the course holds again (`run-on`), and the run goes on from there
 spare-requires : tie.Need-spare-requires Inv-loop μ-loop
 spare-requires c κs =
     let g = c .before .before .before .before .before .before .before .before .before .before .before in
