@@ -13,7 +13,7 @@ use crate::reference::{Pair, MOST_CELLS, MOST_ENTRIES};
 use crate::slips;
 
 /// The families, in the order of `draw`.
-pub const FAMILIES: [&str; 20] = [
+pub const FAMILIES: [&str; 21] = [
     "no pairs",
     "path",
     "tree",
@@ -34,12 +34,14 @@ pub const FAMILIES: [&str; 20] = [
     "long ring or chain",
     "as for weigh",
     "core of about 12 cells",
+    "cells with many leaves",
 ];
 const GROUPS: usize = 13;
 const FULL: usize = 16;
 const LONG: usize = 17;
 const AS_FOR_WEIGH: usize = 18;
 const ABOUT_TWELVE: usize = 19;
+const MANY_LEAVES: usize = 20;
 /// Families that often leave pairs which no step takes, or have long rows.
 const LEAVING: [usize; 6] = [11, 12, 15, LONG, ABOUT_TWELVE, ABOUT_TWELVE];
 /// A family of large lists alone is taken once in so many times that it comes up.
@@ -394,6 +396,7 @@ fn list_of_family(random: &mut Random, family: usize) -> (&'static str, Form) {
         FULL => full_list(random),
         LONG => long_list(random),
         ABOUT_TWELVE => list_of_about_twelve(random),
+        MANY_LEAVES => list_of_many_leaves(random),
         _ => {
             let size = size(random);
             let draft = draft(random, family, size);
@@ -498,6 +501,27 @@ fn long_list(random: &mut Random) -> Form {
             draft.chain(u, inner - 1, u);
             draft.tail(u, 1);
         }
+    }
+    list_of(random, &draft)
+}
+
+// A few cells with many leaves each, joined to one another or not; some of the leaves have a second pair.
+fn list_of_many_leaves(random: &mut Random) -> Form {
+    let mut draft = Draft::default();
+    let mut middles = Vec::new();
+    for _ in 0..random.between(1, 4) {
+        let middle = draft.cell();
+        for _ in 0..random.between(14, 40) {
+            draft.cell_at(middle);
+        }
+        if !middles.is_empty() && random.once_in(2) {
+            draft.pair(middle, random.one_of(&middles));
+        }
+        middles.push(middle);
+    }
+    for _ in 0..random.one_of(&[0, 0, 1, 3, 9]) {
+        let (one, other) = (draft.any(random), draft.any(random));
+        draft.pair(one, other);
     }
     list_of(random, &draft)
 }
