@@ -12,7 +12,6 @@ use native.Mathlib.Omega.{arith}
 use lib.Dec.{eqb, ltb}
 use lib.ListN.{length, length-append, length-map}
 use borrow.Author.Tests.{lt-ltb, le-ltb}
-use Rattle.matching.specs.Lists.{mem}
 use Rattle.matching.specs.Pairs.{Points, touches}
 use Rattle.matching.specs.Graph.{Graph, partners, degree}
 use Rattle.matching.specs.Steps.{Step, leaf, leafed}
@@ -20,9 +19,9 @@ use Rattle.matching.specs.Shapes.{IsLeaf}
 use Rattle.matching.specs.Find.{firstStep}
 use Rattle.matching.specs.Slip.{left, carried, reduce}
 use Rattle.matching.proofs.Tests.{Test, pass, fail, eqT, ltT}
-use Rattle.matching.proofs.Members.{mem-head, mem-one}
+use Rattle.matching.proofs.Members.{mem-head}
 use Rattle.matching.proofs.Sums.{touchesT, or-turn}
-use Rattle.matching.proofs.Partners.{partners-like, partners-one, has-partner, partner-of}
+use Rattle.matching.proofs.Partners.{partners-like, partners-one, partners-more-than-one, partner-of}
 use Rattle.matching.proofs.Put.{pair-apart}
 use Rattle.matching.proofs.Find.{first-leaf}
 use Rattle.matching.proofs.More.{graph-to, degree-more}
@@ -124,9 +123,9 @@ module _ {w : Points} (g : Graph 1024 w) (u p : ℕ) where
   -- u, of which two pairs are not gone
   hub-two : (x y : ℕ) → x ≢ y → p < w u x → p < w u y → degree 1024 (lessAll u p w) u ≢ 1
   hub-two x y d lx ly one =
-      let g′ = less-graph u p w g in
-      let e = partners-one g′ u x one (omega (arith, less-from u p w x)) in
-      d (mem-one y x (subst (λ ps. mem y ps ≡ true) e (has-partner g′ u y (omega (arith, less-from u p w y)))))
+      let lx′ : 0 < lessAll u p w u x = omega (arith, less-from u p w x) in
+      let ly′ : 0 < lessAll u p w u y = omega (arith, less-from u p w y) in
+      omega (arith, one, partners-more-than-one (less-graph u p w g) u x y d lx′ ly′)
 
   -- the leaf step at a leaf of u, whose pair is not gone
   less-leaf : (v : ℕ) → partners 1024 w v ≡ u ∷ [] → p < w u v → leafed (lessAll u p w) u v ≡ lessAll u (w u v) w

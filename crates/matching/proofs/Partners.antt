@@ -129,6 +129,35 @@ module _ {n : ℕ} {w : Points} (g : Graph n w) where
       go (a ∷ []) e = rw (mem-one u a (rw e at (has-partner c u h)))
       go (a ∷ b ∷ ps) e = absurd (omega (arith, ap length e))
 
+  -- at most one, and more than one
+  pub partners-few : (c u : ℕ) → ((x : ℕ) → x ≢ u → w c x ≡ 0) → degree n w c ≤ 1
+  partners-few c u off = go (partners n w c) refl
+    where
+      here : (x : ℕ) → mem x (partners n w c) ≡ true → x ≡ u
+      here x m = at (eqT x u)
+        where
+          at : {t : Bool} → Test (x ≡ u) (x ≢ u) t → x ≡ u
+          at (pass q) = q
+          at (fail d) = absurd (omega (arith, off x d, partner-of c x m))
+
+      go : (ps : List ℕ) → partners n w c ≡ ps → length ps ≤ 1
+      go [] e = omega arith
+      go (a ∷ []) e = omega arith
+      go (a ∷ b ∷ ps) e =
+          let up : Ascending (a ∷ b ∷ ps) = rw e at (partners-ascending n w c) in
+          let qa = here a (rw e (mem-head a a (b ∷ ps) refl)) in
+          let qb = here b (rw e (mem-on b a (b ∷ ps) (mem-head b b ps refl))) in
+          absurd (omega (arith, qa, qb, up .0 b (mem-head b b ps refl)))
+
+  pub partners-more-than-one : (c x y : ℕ) → x ≢ y → 0 < w c x → 0 < w c y → 1 < degree n w c
+  partners-more-than-one c x y d hx hy = go (partners n w c) refl
+    where
+      go : (ps : List ℕ) → partners n w c ≡ ps → 1 < length ps
+      go [] e = no-mem x (rw e at (has-partner c x hx))
+      go (a ∷ []) e =
+          absurd (d (sym (mem-one x a (rw e at (has-partner c x hx))) ∙ mem-one y a (rw e at (has-partner c y hy))))
+      go (a ∷ b ∷ ps) e = omega arith
+
   -- two partners
   pub partners-two : {p c q : ℕ} → Between n w p c q → (partners n w c ≡ p ∷ q ∷ []) ⊎ (partners n w c ≡ q ∷ p ∷ [])
   partners-two {p} {c} {q} t = go (partners n w c) refl

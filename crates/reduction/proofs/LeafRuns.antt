@@ -1,6 +1,6 @@
 -- A run of leaf steps behind the steps so far. In order: the names of leaf steps as words (`leaf-names`); a course by the
 -- steps of a run (`course-more`); that there is room for what was taken (`run-most`); after a run the points carried fit
--- (`run-more-carries`), and what holds before a step holds again (`run-more`). Assumes nothing.
+-- (`run-more-carries`), and what holds before a step holds again (`run-more`, `rings-stay`). Assumes nothing.
 use mathlib.Core.Path.{_≡_, refl, sym, ap, ap₂, subst, _∙_}
 use mathlib.Core.Logic.{_⊎_, inl, inr}
 use mathlib.Core.Bool.{Bool}
@@ -19,12 +19,14 @@ use Rattle.matching.proofs.Tally.{cells-most}
 use Rattle.matching.proofs.Reduce.{replay-fits, slip-count, reduce-replay, reduce-append}
 use Rattle.matching.proofs.Demand.{slip-graph}
 use Rattle.matching.proofs.Course.{behind, left-append, carried-append, replay-split}
+use Rattle.slots.specs.Slots.{graphOf}
+use Rattle.steps.specs.Finding.{RingQuiet}
 use Rattle.steps.specs.Trail.{closing, trail}
 use Rattle.leaves.specs.Runs.{leavesAt, leafWords, leafNames, Taken}
 use Rattle.leaves.specs.declared.LeafRun.{LeafRun}
 use Rattle.leaves.proofs.Noting.{trail-leaves}
 use Rattle.reduction.specs.Course.{course}
-use Rattle.reduction.specs.Running.{namesFrom, nameWord, Small, Spare, After}
+use Rattle.reduction.specs.Running.{namesFrom, nameWord, Small, Spare, RingsLeft, After}
 use Rattle.reduction.proofs.Coursing.{behind-append, behind-none, trail-append, trail-room}
 use Rattle.reduction.proofs.Runs.{Coursing, fuel, names-out, name-word}
 
@@ -165,3 +167,15 @@ module _ {n : ℕ} {w : Points} (g : Graph n w) (le : n ≤ 1024) (small : Small
             go : {b : Bool} → Test (k < m) (m ≤ k) b → namesFrom m slip k ≡ namesFrom m slip (k + r .steps)
             go (pass l) = ap (namesFrom m slip) (omega (arith, sp .slip l, t .few))
             go (fail l) = names-out m slip k l ∙ sym (names-out m slip (k + r .steps) (omega arith))
+
+-- a bound for rings that stays
+pub rings-stay : {n e t k most m left b : ℕ} {w1 w2 w1′ w2′ : List ℕ} {r : LeafRun}
+    → Taken n e t k most w1 w2 w1′ w2′ r → RingsLeft m k (r .steps) left b
+    → (m < k → RingQuiet left (graphOf e w1)) → RingQuiet b (graphOf e w1′)
+rings-stay x (inl z) q = λ c l. absurd (omega arith)
+rings-stay {e = e} {left = bound} {w1 = w1} {w1′ = w1′} x (inr (l, z, b)) q =
+    rw b (subst (RingQuiet bound) (sym (x .graph ∙ none-left (x .cells) (omega (arith, z, x .count)))) (q l))
+  where
+    none-left : (cs : List ℕ) → length cs ≡ 0 → left (graphOf e w1) (leavesAt (x .hub) cs) ≡ graphOf e w1
+    none-left [] k = refl
+    none-left (c ∷ cs) k = absurd (omega arith)

@@ -1,7 +1,7 @@
 -- The loop of replay and reduce. In order: the names of a slip one by one (`names-here`, `names-out`); the step that
 -- comes next, as it is found (`next-scanned`, `next-first`) and named (`name-some`, `name-none`); what holds before
--- step k (`Coursing`, `run-start`), what taking it asks (`run-there`), that no leaf is below the bound after it
--- (`run-quiet`), that the rest holds again (`run-on`), and how the loop ends (`run-refused`, `run-ends`, `run-out`).
+-- step k (`Coursing`, `run-start`), what taking it asks (`run-there`), that no leaf and no ring is below the bounds
+-- after it (`run-quiet`, `run-rings`), that the rest holds again (`run-on`), and how the loop ends (`run-refused`, `run-ends`, `run-out`).
 -- Assumes nothing.
 use mathlib.Core.Path.{_≡_, refl, sym, ap, ap₂, subst, _∙_}
 use mathlib.Core.Logic.{inl, inr}
@@ -21,8 +21,8 @@ use Rattle.matching.specs.Find.{stepAt, firstStep, search}
 use Rattle.matching.specs.Slip.{replay, left, carried}
 use Rattle.matching.proofs.Tests.{Test, pass, fail, ltT}
 use Rattle.matching.proofs.Fits.{Stands}
-use Rattle.matching.proofs.Find.{step-is, step-below}
-use Rattle.matching.proofs.More.{graph-to, is-more, step-more}
+use Rattle.matching.proofs.Find.{Tried, rank, step-is, step-below, first-step-first}
+use Rattle.matching.proofs.More.{graph-to, is-more, is-less, step-more}
 use Rattle.matching.proofs.Tally.{cells-most}
 use Rattle.matching.proofs.Reduce.{replay-fits, slip-count}
 use Rattle.matching.proofs.Demand.{slip-graph}
@@ -36,6 +36,7 @@ use Rattle.cellfile.proofs.Walk.{from-start, from-next, from-end}
 use Rattle.slots.specs.Slots.{Holds, graphOf}
 use Rattle.slots.proofs.Holding.{holds-room, holds-aside}
 use Rattle.steps.specs.Finding.{toTell, ruleOf, Finds, stepFrom, stepOf, Quiet, Quieted}
+use Rattle.steps.specs.Finding.{RingQuiet, LowestRing, RingQuieted}
 use Rattle.steps.specs.Trail.{stepWords, trail}
 use Rattle.steps.specs.Applying.{StepThere, StepTaken}
 use Rattle.steps.specs.declared.finding.Found.{Found}
@@ -375,6 +376,24 @@ module _ {n : ℕ} {w : Points} (g : Graph n w) (le : n ≤ 1024) (small : Small
       run-quiet f {low} {r} z low-quiet =
           subst (Quiet r) (sym (d .graph))
           (z s (f .step ∙ ap toTell next) (name s) run-is (graph-to run-graph 1024 le) low-quiet)
+
+      -- no ring step is named by a cell below r, where reduce takes the step
+      pub run-rings : {x : Found} → Finds slots w1 (nextStep n (graphOf slots w1) (namesFrom m slip k)) x → m ≤ k
+          → {low r : ℕ} → RingQuieted (graphOf slots w1) (x .step) low r → RingQuiet low (graphOf slots w1)
+          → RingQuiet r (graphOf (t .slots) w1′)
+      run-rings f l′ {low} {r} z low-quiet =
+          subst (RingQuiet r) (sym (d .graph))
+          (z s (f .step ∙ ap toTell next) (name s) run-is (graph-to run-graph 1024 le) lowest low-quiet)
+        where
+          first : firstStep n (graphOf slots w1) ≡ some s
+          first = subst (λ rs. nextStep n (graphOf slots w1) rs ≡ some s) (names-out m slip k l′) next
+
+          lowest : LowestRing (graphOf slots w1) s
+          lowest e c y p = go (first-step-first run-graph s first by-ring c y (is-less run-graph 1024 le by-ring c y p))
+            where
+              go : Tried (name s) (by-ring, c) → name s .1 ≤ c
+              go (inl b) = absurd (omega (arith, b, ap rank e))
+              go (inr b) = b .1
 
       pub run-on : Coursing n w m more slip (t .slots) (t .trail) (points + t .carried) (k + 1) w1′ w2″
       run-on = record {

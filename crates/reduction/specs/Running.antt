@@ -1,5 +1,6 @@
 -- What the loop of replay and reduce asks and leaves. Inner contracts cite this; lifting goes by the trail.
 use mathlib.Core.Path.{_≡_}
+use mathlib.Core.Logic.{_⊎_}
 use mathlib.Core.List.{List, [], _∷_, map}
 use mathlib.Core.Option.{Option, some, none}
 use Prim.Native.Nat.{ℕ, _+_, _*_, _-_, _≤_, _<_}
@@ -58,6 +59,10 @@ pub record Spare (m more k on-trail r : ℕ) : Type 0 where
   pub names : k + r ≤ 1024
   pub trail : on-trail + r ≤ 4096
   pub slip : k < m → r ≡ 0
+
+-- The bound for rings stays where the last of the k steps was reduce's and no run came behind it; else it is 0.
+abbrev pub RingsLeft : ℕ → ℕ → ℕ → ℕ → ℕ → Type 0
+RingsLeft m k steps rings r = (r ≡ 0) ⊎ ((m < k) × (steps ≡ 0) × (r ≡ rings))
 
 -- What the loop asks: e slots hold a graph of n cells.
 pub record RunThere (n e m : ℕ) (slip w1 w2 : List ℕ) : Type 0 where

@@ -12,8 +12,8 @@ ghost use lib.ListN.{length};
 ghost use Rattle.matching.specs.Graph.{Graph};
 ghost use Rattle.matching.specs.Steps.{Step as DefinedStep};
 ghost use Rattle.slots.specs.Slots.{Holds, graphOf};
-ghost use Rattle.steps.specs.Finding.{told, toTell, Finds, Quiet};
-ghost use Rattle.reduction.specs.Running.{RunThere, Runs, namesAt, namesFrom, nextStep, named, toName, Spare};
+ghost use Rattle.steps.specs.Finding.{told, toTell, Finds, Quiet, RingQuiet};
+ghost use Rattle.reduction.specs.Running.{RunThere, Runs, namesAt, namesFrom, nextStep, named, toName, Spare, RingsLeft};
 
 // A refusal, or what stands in the buffers after the steps: the slots in use, the words on the trail, the points carried,
 // and the number of steps, which stand as words from 6,144 on in the second buffer.
@@ -49,7 +49,8 @@ fn name_of(step: Step) -> Named
     }
 }
 
-// Step k: the one that the slip names, or behind its m steps the one that reduce takes. No cell below `low` is a leaf.
+// Step k: the one that the slip names, or behind its m steps the one that reduce takes. No cell below `low` is a leaf, none
+// below `rings` is named by a ring step.
 fn next(
     slip: &[u8],
     m: usize,
@@ -59,9 +60,10 @@ fn next(
     w2: &[u64],
     e: usize,
     low: usize,
+    rings: usize,
 ) -> Found
     requires { ⌜ (Holds e (now w1) (now w2)) × (n ≤ 1024) × Graph n (graphOf e (now w1)) × (m < 8192)
-        × (4 + 2 * m ≤ length (now slip)) × Quiet low (graphOf e (now w1)) ⌝ }
+        × (4 + 2 * m ≤ length (now slip)) × Quiet low (graphOf e (now w1)) × RingQuiet rings (graphOf e (now w1)) ⌝ }
     ensures { λ r. ⌜ Finds e (now (w1 .entry)) (nextStep n (graphOf e (now (w1 .entry)))
         (namesFrom m (now (slip .entry)) k)) r ⌝ }
 {
@@ -72,7 +74,7 @@ fn next(
         let cell = t.cell;
         return finding::scan(w1, w2, e, rule, cell, cell + 1);
     }
-    finding::first_step(w1, w2, e, n, low)
+    finding::first_step(w1, w2, e, n, low, rings)
 }
 
 const MOST_STEPS: usize = 1024;
@@ -89,6 +91,20 @@ fn spare(m: usize, more: usize, k: usize, trail: usize) -> usize
     }
     let room = finding::lower(MOST_STEPS - k, TRAIL_WORDS - trail);
     finding::lower(room, m + more - k)
+}
+
+// The bound for rings after k steps, of which the last before a run of `steps` leaf steps left the bound `rings`: it stays
+// where reduce took that step and there was no run.
+fn rings_left(m: usize, k: usize, steps: usize, rings: usize) -> usize
+    ensures { λ r. ⌜ RingsLeft m k steps rings r ⌝ }
+{
+    if k <= m {
+        return 0;
+    }
+    if steps != 0 {
+        return 0;
+    }
+    rings
 }
 
 // Takes the first m steps of the slip, then at most `more` steps as reduce takes them.
@@ -110,8 +126,9 @@ pub fn run(
     let mut carried = 0;
     let mut k = 0;
     let mut low = 0;
+    let mut rings = 0;
     while k < m + more {
-        let x = next(slip, m, k, n, w1, w2, slots, low);
+        let x = next(slip, m, k, n, w1, w2, slots, low, rings);
         let step = x.step;
         let Named::Step { rule, cell } = name_of(step) else {
             if k < m {
@@ -121,6 +138,8 @@ pub fn run(
         };
         let taken = x.step;
         low = finding::quiet_after(w1, w2, slots, taken, low);
+        let again = x.step;
+        let left = finding::rings_after(w1, w2, slots, again, rings);
         let t = applying::take_step(w1, w2, slots, trail, x);
         w2[NAMES + k] = rule * RULE_UNIT + cell as u64;
         slots = t.slots;
@@ -129,10 +148,12 @@ pub fn run(
         k += 1;
         let most = spare(m, more, k, trail);
         let run = leaves::leaf_run(w1, w2, slots, n, low, trail, k, most);
+        let steps = run.steps;
         low = run.low;
+        rings = rings_left(m, k, steps, left);
         carried += run.carried;
-        trail += run.steps;
-        k += run.steps;
+        trail += steps;
+        k += steps;
     }
     Ran::Done {
         slots,

@@ -10,3 +10,4 @@ pub mod Taken
 pub mod Putting
 pub mod Applied
 pub mod Quiet
+pub mod Rings

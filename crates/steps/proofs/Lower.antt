@@ -51,7 +51,7 @@ named-on w by-ring z (ring u y inner) p = inl (rw (← p .0) (p .1 .low .here))
 named-on w by-chain z (chain u v y inner) p = inl (rw (← p .0) (p .1 .low .here))
 
 -- the last pair of a walk
-last-live : (w : Points) (u : ℕ) (cs : List ℕ) (v : ℕ) → Each (λ a b. 0 < w a b) (walk u cs v) → 0 < w (last u cs) v
+pub last-live : (w : Points) (u : ℕ) (cs : List ℕ) (v : ℕ) → Each (λ a b. 0 < w a b) (walk u cs v) → 0 < w (last u cs) v
 last-live w u [] v p = p .0
 last-live w u (c ∷ cs) v p = last-live w c cs v (p .1)
 
@@ -74,7 +74,7 @@ module _ {w : Points} (g : Graph 1024 w) where
     apart = λ e. (let l = r .towards in omega arith);
   }
 
-  ring-next : {u z : ℕ} {inner : List ℕ} → IsRing 1024 w u z inner → degree 1024 w u ≡ 2 → (y : ℕ) → 0 < w u y
+  pub ring-next : {u z : ℕ} {inner : List ℕ} → IsRing 1024 w u z inner → degree 1024 w u ≡ 2 → (y : ℕ) → 0 < w u y
       → mem y inner ≡ true
   ring-next {u} {z} {inner} r two y h = go (between-only g (ring-between r two) y h)
     where

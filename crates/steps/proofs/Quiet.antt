@@ -37,7 +37,7 @@ use Rattle.steps.proofs.Gone.{put-away}
 -- ---- the points of a cell that is not in the step
 
 module _ {w : Points} (g : Graph 1024 w) where
-  leaf-else : {u v : ℕ} → IsLeaf 1024 w u v → (c : ℕ) → c ≢ u → c ≢ v → w c u ≡ 0 → (x : ℕ) → leafed w u v c x ≡ w c x
+  pub leaf-else : {u v : ℕ} → IsLeaf 1024 w u v → (c : ℕ) → c ≢ u → c ≢ v → w c u ≡ 0 → (x : ℕ) → leafed w u v c x ≡ w c x
   unfolding leafed
   leaf-else {u} {v} l c nu nv z x = go (touchesT v c x) (touchesT u c x)
     where
@@ -67,7 +67,7 @@ module _ {w : Points} (g : Graph 1024 w) where
           omega (arith, dropped-most inner w c x, g .turned c x, no)
       go (fail m) = dropped-out inner w c x (off, m)
 
-  ring-else : {u z : ℕ} {inner : List ℕ} → IsRow 1024 w u inner u → (c : ℕ) → mem c inner ≡ false → c ≢ u → c ≢ z
+  pub ring-else : {u z : ℕ} {inner : List ℕ} → IsRow 1024 w u inner u → (c : ℕ) → mem c inner ≡ false → c ≢ u → c ≢ z
       → (x : ℕ) → ringed w u z inner c x ≡ w c x
   unfolding ringed
   ring-else {u} {z} {inner} r c off nu nz x =

@@ -1,6 +1,7 @@
 -- The scan over cells and their slots for the first step of a rule. In order: what a slot shows (`slot-gone`,
 -- `slot-leaf`, `slot-row`); the slots of a cell (`unmet-none`, `unmet-off`, `unmet-start`, `unmet-on`, `unmet-gone`,
--- `unmet-end`); the cells (`Barren`, `scan-none`, `scan-some`); a scan that leaves out cells without a leaf (`from-low`);
+-- `unmet-end`); the cells (`Barren`, `scan-none`, `scan-some`); a scan that leaves out cells below a bound (`from-bound`,
+-- `from-low`);
 -- the first step of all rules (`first-leaf`, `first-ring`, `first-chain`).
 use mathlib.Core.Path.{_≡_, refl, sym, ap, ap₂, subst, _∙_, fun-ext}
 use mathlib.Core.Logic.{_⊎_, inl, inr, _≢_, ⊎-elim}
@@ -231,14 +232,19 @@ search-from at low n nil = go (search later (n - low)) (searched later (n - low)
         sym (search-first at n (low + y .0) s (omega (arith, y .1)) (y .2)
         (λ j l. below (low + y .0) (λ i k. y .3 i (omega arith)) j l (ltT j low)))
 
+-- below `low` no step of the rule is named
+pub from-bound : {e : ℕ} {w1 w2 : List ℕ} → Holds e w1 w2 → (r : Rule) (low n : ℕ)
+    → ((c : ℕ) → c < low → Unnamed (graphOf e w1) r c) → {x : Found}
+    → Finds e w1 (stepFrom (graphOf e w1) r low n) x → Finds e w1 (stepFrom (graphOf e w1) r 0 n) x
+from-bound {e} {w1} h r low n q {x} =
+    subst (λ (o : Option Step). Finds e w1 o x)
+    (search-from (stepAt 1024 (graphOf e w1) r) low n (λ j l. step-none (holds-graph h) r j .1 (q j l))
+    ∙ sym (from-zero e w1 r n))
+
 -- below `low` no cell is a leaf
 pub from-low : {e : ℕ} {w1 w2 : List ℕ} → Holds e w1 w2 → (low n : ℕ) → Quiet low (graphOf e w1) → {x : Found}
     → Finds e w1 (stepFrom (graphOf e w1) by-leaf low n) x → Finds e w1 (stepFrom (graphOf e w1) by-leaf 0 n) x
-from-low {e} {w1} h low n q {x} =
-    subst (λ (o : Option Step). Finds e w1 o x)
-    (search-from (stepAt 1024 (graphOf e w1) by-leaf) low n
-    (λ j l. step-none (holds-graph h) by-leaf j .1 (λ s p. q j l (step-degree h by-leaf j s p)))
-    ∙ sym (from-zero e w1 by-leaf n))
+from-low h low n q = from-bound h by-leaf low n (λ c l s p. q c l (step-degree h by-leaf c s p))
 
 -- the three searches in their order
 in-order : (e : ℕ) (w1 : List ℕ) (n : ℕ) → Graph n (graphOf e w1) → n ≤ 1024 → firstStep n (graphOf e w1)

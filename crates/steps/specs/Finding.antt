@@ -9,7 +9,7 @@ use Prim.Native.Nat.{ℕ, suc, _+_, _-_, _≤_, _<_}
 use lib.Dec.{eqb}
 use Rattle.matching.specs.Pairs.{Points, touches}
 use Rattle.matching.specs.Graph.{Graph, degree}
-use Rattle.matching.specs.Steps.{Rule, by-leaf, by-ring, by-chain, Step, leaf, ring, chain, apply}
+use Rattle.matching.specs.Steps.{Rule, by-leaf, by-ring, by-chain, Step, leaf, ring, chain, name, apply}
 use Rattle.matching.specs.Shapes.{IsStep, first, last}
 use Rattle.matching.specs.Find.{search, stepAt}
 use Rattle.cellfile.specs.Answers.{Answer}
@@ -143,3 +143,19 @@ abbrev pub Quieted : Points → declared.Step → ℕ → ℕ → Type 0
 Quieted w x low r =
     (s : Step) → told x ≡ toTell (some s) → (q : Rule × ℕ) → IsStep 1024 w (q .0) (q .1) s → Graph 1024 w
     → Quiet low w → Quiet r (apply w s)
+
+-- ---- where no ring is
+
+-- No ring step is named by a cell below `low`.
+abbrev pub RingQuiet : ℕ → Points → Type 0
+RingQuiet low w = (c : ℕ) → c < low → Unnamed w by-ring c
+
+-- Where the step is a ring's, no ring step is named by a lower cell than it.
+abbrev pub LowestRing : Points → Step → Type 0
+LowestRing w s = name s .0 ≡ by-ring → (c : ℕ) (t : Step) → IsStep 1024 w by-ring c t → name s .1 ≤ c
+
+-- No ring step is named by a cell below r after the step, where none is below `low` before it.
+abbrev pub RingQuieted : Points → declared.Step → ℕ → ℕ → Type 0
+RingQuieted w x low r =
+    (s : Step) → told x ≡ toTell (some s) → (q : Rule × ℕ) → IsStep 1024 w (q .0) (q .1) s → Graph 1024 w
+    → LowestRing w s → RingQuiet low w → RingQuiet r (apply w s)

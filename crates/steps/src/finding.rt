@@ -12,7 +12,7 @@ ghost use Rattle.slots.specs.Slots.{Holds, graphOf, lowOf, highOf, Joins};
 ghost use Rattle.steps.specs.Walks.{stretchAt, Stops};
 ghost use Rattle.steps.specs.Finding.{told, ruleOf, degreeOf, Finds, stepFrom};
 ghost use Rattle.steps.specs.Finding.{Tells, RingTest, ChainTest, FindsBy, FindsAt, Unmet, Unnamed};
-ghost use Rattle.steps.specs.Finding.{Quiet, Quieted, Near};
+ghost use Rattle.steps.specs.Finding.{Quiet, Quieted, Near, RingQuiet, RingQuieted};
 
 // The end of a walk, the cell before it, and the slot of the two.
 pub struct Stop {
@@ -303,10 +303,10 @@ pub fn scan(w1: &[u64], w2: &[u64], e: usize, rule: u64, from: usize, to: usize)
 }
 
 // The step that reduce takes: a leaf at the lowest cell; without one a ring; without one a chain. No cell below `low` is a
-// leaf.
-pub fn first_step(w1: &[u64], w2: &[u64], e: usize, n: usize, low: usize) -> Found
+// leaf, none below `rings` is named by a ring step.
+pub fn first_step(w1: &[u64], w2: &[u64], e: usize, n: usize, low: usize, rings: usize) -> Found
     requires { ⌜ (Holds e (now w1) (now w2)) × (n ≤ 1024) × Graph n (graphOf e (now w1))
-        × Quiet low (graphOf e (now w1)) ⌝ }
+        × Quiet low (graphOf e (now w1)) × RingQuiet rings (graphOf e (now w1)) ⌝ }
     ensures { λ r. ⌜ Finds e (now (w1 .entry)) (firstStep n (graphOf e (now (w1 .entry)))) r ⌝ }
 {
     let leaf = scan(w1, w2, e, LEAF, low, n);
@@ -317,7 +317,7 @@ pub fn first_step(w1: &[u64], w2: &[u64], e: usize, n: usize, low: usize) -> Fou
             return leaf;
         }
     }
-    let ring = scan(w1, w2, e, RING, 0, n);
+    let ring = scan(w1, w2, e, RING, rings, n);
     let step = ring.step;
     match step {
         Step::None => {}
@@ -377,5 +377,33 @@ pub fn quiet_after(w1: &[u64], w2: &[u64], e: usize, step: Step, low: usize) -> 
         Step::Ring { u, z } => lower(low, lower(u, z)),
         Step::Chain { u, v: _, z } => lower(low, lower(u, z)),
         Step::None => low,
+    }
+}
+
+// Below this cell no ring step is named after a step, where none was below `rings` before it.
+pub fn rings_after(w1: &[u64], w2: &[u64], e: usize, step: Step, rings: usize) -> usize
+    requires { ⌜ Holds e (now w1) (now w2) ⌝ }
+    ensures { λ r. ⌜ RingQuieted (graphOf e (now (w1 .entry))) step rings r ⌝ }
+{
+    match step {
+        Step::Leaf { v: _, u } => {
+            if 1024 <= u {
+                return 0;
+            }
+            if read::degree(w1, w2, e, u) != 1 {
+                return 0;
+            }
+            rings
+        }
+        Step::Ring { u, z } => {
+            if 1024 <= u {
+                return 0;
+            }
+            if read::degree(w1, w2, e, u) != 2 {
+                return 0;
+            }
+            z
+        }
+        _ => 0,
     }
 }

@@ -1,5 +1,5 @@
--- `run` takes step after step. Invariant: allowed steps were taken, the rest of the course goes on from there, and no
--- cell below `low` is a leaf.
+-- `run` takes step after step. Invariant: allowed steps were taken, the rest of the course goes on from there, no cell
+-- below `low` is a leaf, and none below `rings` is named by a ring step.
 use mathlib.Core.Path.{_≡_, refl, _∙_}
 use mathlib.Core.Option.{Option, some}
 use Prim.Native.Nat.{_+_, _-_, _≤_, _<_}
@@ -9,23 +9,25 @@ use borrow.Author.Needs.{needs}
 use Rattle.matching.specs.Steps.{Step, name}
 use Rattle.slots.specs.Slots.{graphOf}
 use Rattle.slots.proofs.Holding.{holds-room}
-use Rattle.steps.specs.Finding.{Quiet}
+use Rattle.steps.specs.Finding.{Quiet, RingQuiet}
 use Rattle.reduction.specs.Calls.{numberOf}
 use Rattle.reduction.specs.Running.{namesFrom, nextStep, named, toName}
 use Rattle.reduction.proofs.Runs.{Coursing, run-start, run-graph, run-name, run-few, run-there, run-step, run-on}
-use Rattle.reduction.proofs.Runs.{run-length, run-carries, run-quiet, run-refused, run-ends, run-out}
+use Rattle.reduction.proofs.Runs.{run-length, run-carries, run-quiet, run-rings, run-refused, run-ends, run-out}
 use Rattle.reduction.proofs.Runs.{found-name, found-none}
-use Rattle.reduction.proofs.LeafRuns.{run-most, run-more, run-more-carries}
+use Rattle.reduction.proofs.LeafRuns.{run-most, run-more, run-more-carries, rings-stay}
 use Rattle.reduction.proofs.running.run.Statement.{statement}
 use Rattle.reduction.proofs.running.run.Tie as tie
 
 abbrev Inv-loop : tie.InvT-loop
-Inv-loop slip m more n w1₀ w2₀ e slots₀ trail₀ carried₀ k₀ low₀ w1 w2 slots trail carried k low =
+Inv-loop slip m more n w1₀ w2₀ e slots₀ trail₀ carried₀ k₀ low₀ rings₀ w1 w2 slots trail carried k low rings =
     (length w1 ≡ length w1₀) × (length w2 ≡ length w2₀)
     × Coursing n (graphOf e w1₀) m more slip slots trail carried k w1 w2 × Quiet low (graphOf slots w1)
+    × RingQuiet rings (graphOf slots w1)
 
 abbrev μ-loop : tie.MeasureT-loop
-μ-loop slip m more n w1₀ w2₀ e slots₀ trail₀ carried₀ k₀ low₀ w1 w2 slots trail carried k low = m + more - k
+μ-loop slip m more n w1₀ w2₀ e slots₀ trail₀ carried₀ k₀ low₀ rings₀ w1 w2 slots trail carried k low rings =
+    m + more - k
 
 -- the step that comes next; its name
 abbrev following : tie.After-name-of Inv-loop μ-loop → Option Step
@@ -69,6 +71,7 @@ loop-holds c = (
   refl,
   run-start (c .before .before .before .args .more) (c .before .before .before .pre .0),
   λ x l. absurd (omega arith),
+  λ x l. absurd (omega arith),
 )
 
 add-loop : tie.Need-add-loop Inv-loop μ-loop
@@ -78,7 +81,7 @@ next-requires : tie.Need-next-requires Inv-loop μ-loop
 next-requires c κs =
     let p = c .before .before .before .before .before .before .before .pre .0 in
     let l = c .before .before .before .loop .inv in
-    (l .2 .after .holds, p .cells, run-graph (p .graph) (p .cells) (p .small) (l .2), p .count, p .slip-room, l .3)
+    (l .2 .after .holds, p .cells, run-graph (p .graph) (p .cells) (p .small) (l .2), p .count, p .slip-room, l .3, l .4)
 
 name-of-requires : tie.Need-name-of-requires Inv-loop μ-loop
 name-of-requires c κs = search needs
@@ -108,35 +111,38 @@ quiet-after-requires c κs =
     let l = c .before .before .before .before .before .before .before .before .before .before .loop in
     l .inv .2 .after .holds
 
+rings-after-requires : tie.Need-rings-after-requires Inv-loop μ-loop
+rings-after-requires c κs = c .before .before .before .before .before .before .before .before .before .before .before .before .before .loop .inv .2 .after .holds
+
 take-step-requires : tie.Need-take-step-requires Inv-loop μ-loop
 take-step-requires c κs =
-    let g = c .before .before .before .before .before in
+    let g = c .before .before .before .before .before .before .before .before in
     let p = g .before .before .before .before .before .before .before .before .before .before .before .before .pre .0 in
     let x = the-step g in
     let h = g .before .before .before .before .before .before .before .before .loop .inv .2 in
     run-there (p .graph) (p .cells) (p .small) h (x .0) (x .1) (g .before .before .before .before .next .ensures)
 
 mul-w2 : tie.Need-mul-w2 Inv-loop μ-loop
-mul-w2 c = omega (arith, the-fit (c .before .before .before .before .before .before .before .before .before .before))
+mul-w2 c = omega (arith, the-fit (c .before .before .before .before .before .before .before .before .before .before .before .before .before))
 
 add-w2 : tie.Need-add-w2 Inv-loop μ-loop
-add-w2 c = omega (arith, the-fit (c .before .before .before .before .before .before .before .before .before .before))
+add-w2 c = omega (arith, the-fit (c .before .before .before .before .before .before .before .before .before .before .before .before .before))
 
 add-w2-2 : tie.Need-add-w2-2 Inv-loop μ-loop
-add-w2-2 c = omega (arith, the-few (c .before .before .before .before .before .before .before .before .before .before))
+add-w2-2 c = omega (arith, the-few (c .before .before .before .before .before .before .before .before .before .before .before .before .before))
 
 mul-w2-2 : tie.Need-mul-w2-2 Inv-loop μ-loop
-mul-w2-2 c = omega (arith, the-few (c .before .before .before .before .before .before .before .before .before .before))
+mul-w2-2 c = omega (arith, the-few (c .before .before .before .before .before .before .before .before .before .before .before .before .before))
 
 slice-write-w2 : tie.Need-slice-write-w2 Inv-loop μ-loop
 slice-write-w2 c =
-    let g = c .before .before .before .before .before .before .before .before .before .before in
+    let g = c .before .before .before .before .before .before .before .before .before .before .before .before .before in
     let h = g .before .before .before .before .before .before .before .before .loop .inv .2 in
     omega (arith, the-few g, holds-room (h .after .holds), c .before .before .before .before .take-step .kept .1 .0)
 
 add-carried : tie.Need-add-carried Inv-loop μ-loop
 add-carried c =
-    let g = c .before .before .before .before .before .before .before .before .before .before .before in
+    let g = c .before .before .before .before .before .before .before .before .before .before .before .before .before .before in
     let p = g .before .before .before .before .before .before .before .before .before .before .before .before .pre .0 in
     let x = the-step g in
     let h = g .before .before .before .before .before .before .before .before .loop .inv .2 in
@@ -147,14 +153,12 @@ add-carried c =
     omega (arith, d .carried, q)
 
 add-k : tie.Need-add-k Inv-loop μ-loop
-add-k c =
-    let g = c .before .before .before .before .before .before .before .before .before .before .before in
-    omega (arith, the-few g)
+add-k c = omega (arith, the-few (c .before .before .before .before .before .before .before .before .before .before .before .before .before .before))
 
 -- after the step that was found the course holds again (`run-on`), and the run goes on from there
 spare-requires : tie.Need-spare-requires Inv-loop μ-loop
 spare-requires c κs =
-    let g = c .before .before .before .before .before .before .before .before .before .before .before in
+    let g = c .before .before .before .before .before .before .before .before .before .before .before .before .before .before in
     let p = g .before .before .before .before .before .before .before .before .before .before .before .before .pre .0 in
     let x = the-step g in
     let l = g .before .before .before .before .before .before .before .before .loop in
@@ -169,7 +173,7 @@ spare-requires c κs =
 
 leaf-run-requires : tie.Need-leaf-run-requires Inv-loop μ-loop
 leaf-run-requires c κs =
-    let g = c .before .before .before .before .before .before .before .before .before .before .before .before .before .before in
+    let g = c .before .before .before .before .before .before .before .before .before .before .before .before .before .before .before .before .before in
     let p = g .before .before .before .before .before .before .before .before .before .before .before .before .pre .0 in
     let x = the-step g in
     let l = g .before .before .before .before .before .before .before .before .loop in
@@ -184,56 +188,63 @@ leaf-run-requires c κs =
       p .cells,
       run-graph (p .graph) (p .cells) (p .small) h,
       run-quiet (p .graph) (p .cells) (p .small) (l .inv .2) (x .0) (x .1) d (u .kept .1 .0) (x .2) (x .3) t f
-          (c .before .before .before .before .before .before .before .before .before .before .before .quiet-after .ensures) (l .inv .3),
+          (c .before .before .before .before .before .before .before .before .before .before .before .before .before .before .quiet-after .ensures) (l .inv .3),
       sp .trail,
       sp .names,
     )
 
+rings-left-requires : tie.Need-rings-left-requires Inv-loop μ-loop
+rings-left-requires c κs = tt
+
 add-carried-2 : tie.Need-add-carried-2 Inv-loop μ-loop
 add-carried-2 c =
-    let g = c .before .before .before .before .before .before .before .before .before .before .before .before .before .before .before .before .before .before .before .before in
+    let g = c .before .before .before .before .before .before .before .before .before .before .before .before .before .before .before .before .before .before .before .before .before .before .before .before in
     let p = g .before .before .before .before .before .before .before .before .before .before .before .before .pre .0 in
     let x = the-step g in
     let l = g .before .before .before .before .before .before .before .before .loop in
     let f = g .before .before .before .before .next .ensures in
-    let u = c .before .before .before .before .before .before .before .before .before .before .before .before .before .before .take-step in
+    let u = c .before .before .before .before .before .before .before .before .before .before .before .before .before .before .before .take-step in
     let d = u .ensures (x .0) (run-step (p .graph) (p .cells) (p .small) (l .inv .2) (x .0) (x .1) f) in
     let t = g .before .before .before .before .before .before .before .loop-test .taken in
     let h =
     run-on (p .graph) (p .cells) (p .small) (l .inv .2) (x .0) (x .1) d (u .kept .1 .0) (x .2) (x .3) t in
-    omega (
-      arith,
-      run-more-carries (p .graph) (p .cells) (p .small) h (c .before .before .before .before .before .before .before .before .spare .ensures) (c .before .before .before .before .before .leaf-run .ensures),
-    )
+    let sp = c .before .before .before .before .before .before .before .before .before .spare .ensures in
+    let r = c .before .before .before .before .before .before .leaf-run .ensures in
+    omega (arith, run-more-carries (p .graph) (p .cells) (p .small) h sp r)
 
 add-trail : tie.Need-add-trail Inv-loop μ-loop
-add-trail c = omega (arith, c .before .before .before .before .before .before .before .before .before .spare .ensures .trail, c .before .before .before .before .before .before .leaf-run .ensures .few)
+add-trail c =
+    omega (arith, c .before .before .before .before .before .before .before .before .before .spare .ensures .trail, c .before .before .before .before .before .before .leaf-run .ensures .few)
 
 add-k-2 : tie.Need-add-k-2 Inv-loop μ-loop
-add-k-2 c = omega (arith, c .before .before .before .before .before .before .before .before .before .before .spare .ensures .names, c .before .before .before .before .before .before .before .leaf-run .ensures .few)
+add-k-2 c =
+    omega (arith, c .before .before .before .before .before .before .before .before .before .spare .ensures .names, c .before .before .before .before .before .before .leaf-run .ensures .few)
 
 loop-less : tie.Need-loop-less Inv-loop μ-loop
-loop-less c = omega (arith, c .before .before .before .before .before .before .before .before .before .before .before .before .before .before .before .before .before .before .before .before .before .before .before .before .before .before .before .before .before .loop-test .taken)
+loop-less c = omega (arith, c .before .before .before .before .before .before .before .before .before .before .before .before .before .before .before .before .before .before .before .before .before .before .before .before .before .before .before .before .before .before .before .loop-test .taken)
 
 loop-again : tie.Need-loop-again Inv-loop μ-loop
 loop-again c =
-    let g = c .before .before .before .before .before .before .before .before .before .before .before .before .before .before .before .before .before .before .before .before .before .before in
+    let g = c .before .before .before .before .before .before .before .before .before .before .before .before .before .before .before .before .before .before .before .before .before .before .before .before in
     let p = g .before .before .before .before .before .before .before .before .before .before .before .before .pre .0 in
     let x = the-step g in
     let l = g .before .before .before .before .before .before .before .before .loop in
     let f = g .before .before .before .before .next .ensures in
-    let u = c .before .before .before .before .before .before .before .before .before .before .before .before .before .before .before .before .take-step in
+    let u = c .before .before .before .before .before .before .before .before .before .before .before .before .before .before .before .take-step in
     let d = u .ensures (x .0) (run-step (p .graph) (p .cells) (p .small) (l .inv .2) (x .0) (x .1) f) in
     let t = g .before .before .before .before .before .before .before .loop-test .taken in
     let h =
     run-on (p .graph) (p .cells) (p .small) (l .inv .2) (x .0) (x .1) d (u .kept .1 .0) (x .2) (x .3) t in
-    let r = c .before .before .before .before .before .before .before .leaf-run in (
+    let r = c .before .before .before .before .before .before .leaf-run in (
       r .kept .0 ∙ u .kept .0 ∙ l .inv .0,
       r .kept .1 .0
           ∙ run-length (p .graph) (p .cells) (p .small) (l .inv .2) (x .0) (x .1) d (u .kept .1 .0) (x .2) (x .3) t
           ∙ l .inv .1,
-      run-more (p .graph) (p .cells) (p .small) h (c .before .before .before .before .before .before .before .before .before .before .spare .ensures) (r .ensures),
+      run-more (p .graph) (p .cells) (p .small) h (c .before .before .before .before .before .before .before .before .before .spare .ensures) (r .ensures),
       r .ensures .quiet,
+      rings-stay (r .ensures) (c .before .rings-left .ensures)
+          (λ b. run-rings (p .graph) (p .cells) (p .small) (l .inv .2) (x .0) (x .1) d (u .kept .1 .0) (x .2) (x .3) t
+          f (omega arith) (c .before .before .before .before .before .before .before .before .before .before .before .before .before .before .before .before .before .before .rings-after .ensures) (l .inv .4)),
     )
 
 same-length-3 : tie.Need-same-length-3 Inv-loop μ-loop
@@ -278,6 +289,7 @@ run-spec =
     same-length-2
     returns
     quiet-after-requires
+    rings-after-requires
     take-step-requires
     mul-w2
     add-w2
@@ -288,6 +300,7 @@ run-spec =
     add-k
     spare-requires
     leaf-run-requires
+    rings-left-requires
     add-carried-2
     add-trail
     add-k-2

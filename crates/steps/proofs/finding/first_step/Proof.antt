@@ -1,6 +1,7 @@
--- `first_step` scans rule by rule; for leaves it leaves out the cells below `low`.
+-- `first_step` scans rule by rule; it leaves out the cells below `low` for leaves, those below `rings` for rings.
 use borrow.Author.Needs.{needs}
-use Rattle.steps.proofs.Scans.{from-low, first-leaf, first-ring, first-chain}
+use Rattle.matching.specs.Steps.{by-ring}
+use Rattle.steps.proofs.Scans.{from-low, from-bound, first-leaf, first-ring, first-chain}
 use Rattle.steps.proofs.finding.first_step.Statement.{statement}
 use Rattle.steps.proofs.finding.first_step.Tie as tie
 
@@ -28,7 +29,8 @@ returns-2 c =
     let leaves = c .before .before .before .before .scan .ensures in
     first-ring (s .args .e) (s .args .w1 .now) (s .args .n) (s .pre .2) (s .pre .1)
     (from-low (s .pre .0) (s .args .low) (s .args .n) (s .pre .3) leaves)
-    (c .before .before .enum-told .given .1) (c .before .scan2 .ensures) (c .match2 .keys2)
+    (c .before .before .enum-told .given .1)
+    (from-bound (s .pre .0) by-ring (s .args .rings) (s .args .n) (s .pre .4) (c .before .scan2 .ensures)) (c .match2 .keys2)
 
 scan-requires-3 : tie.Need-scan-requires-3
 scan-requires-3 c κs = search needs
@@ -39,7 +41,8 @@ returns-3 c =
     let leaves = c .before .before .before .before .before .before .scan .ensures in
     first-chain (s .args .e) (s .args .w1 .now) (s .args .n) (s .pre .2) (s .pre .1)
     (from-low (s .pre .0) (s .args .low) (s .args .n) (s .pre .3) leaves)
-    (c .before .before .before .before .enum-told .given .1) (c .before .before .before .scan2 .ensures)
+    (c .before .before .before .before .enum-told .given .1)
+    (from-bound (s .pre .0) by-ring (s .args .rings) (s .args .n) (s .pre .4) (c .before .before .before .scan2 .ensures))
     (c .before .enum-told2 .given .1) (c .scan3 .ensures)
 
 pub first-step-spec : {M : Type 1} → statement M
