@@ -1,16 +1,19 @@
 -- A call checks its inputs one after the other, each by a function that answers the first of that input's rows. These
 -- laws put the answers together: what is refused by some rows is refused by them and any rows after them, and where
--- they refuse nothing the rows after them decide.
+-- they refuse nothing the rows after them decide. At the end: the answer to a whole call's rows is 0 and the values just
+-- where none of them holds (`call-passes`, `call-sound`).
 use Prim.Native.Nat.{ℕ, zero, suc, _<_}
 use mathlib.Core.Path.{_≡_, refl, sym, ap, _∙_}
 use mathlib.Core.Bool.{Bool, true, false, cond}
 use mathlib.Core.List.{List, [], _∷_, _++_}
 use native.Mathlib.Omega.{arith}
 use lib.ListN.{length}
-use Rattle.cellfile.specs.Refusals.{Row, first}
+use Rattle.cellfile.specs.Files.{storeList}
+use Rattle.cellfile.specs.Refusals.{Row, first, fewWords, listRows}
 use Rattle.cellfile.specs.Answers.{Answer, answer}
 use Rattle.matching.specs.Lists.{All}
-use Rattle.cellfile.proofs.Rows.{first-none}
+use Rattle.matching.proofs.Alls.{all-append}
+use Rattle.cellfile.proofs.Rows.{first-none, list-none}
 
 -- ---- answers
 
@@ -53,3 +56,39 @@ module _ (rows more : List Row) (values : List ℕ) where
   pub layer-passed : {a : Answer} → All (λ (r : Row). 0 < r .0) rows → first rows ≡ 0
       → a ≡ answer (first more) values → a ≡ answer (first (rows ++ more)) values
   layer-passed h e p = p ∙ ap (λ n. answer n values) (sym (first-passed rows more (first-none rows h e)))
+
+-- ---- the rows of a call: 1, those of the list, and more
+
+rows-pass : (rows : List Row) (vs : List ℕ) → All (λ (r : Row). r .1 ≡ false) rows → answer (first rows) vs ≡ (0, vs)
+rows-pass [] vs h = refl
+rows-pass (r ∷ rows) vs h = rw (h .0) (rows-pass rows vs (h .1))
+
+rows-apart : (rows more : List Row) → All (λ (r : Row). r .1 ≡ false) (rows ++ more)
+    → (first rows ≡ 0) × All (λ (r : Row). r .1 ≡ false) more
+rows-apart [] more h = (refl, h)
+rows-apart (r ∷ rows) more h = let a = rows-apart rows more (h .1) in (rw (h .0) (a .0), a .1)
+
+module _ (list lent : List ℕ) (more : List Row) where
+  abbrev pub callRows : List Row
+  callRows = (1, fewWords lent) ∷ (listRows storeList list ++ more)
+
+  -- where none of them holds the answer is the values
+  pub call-passes : (values : List ℕ) → fewWords lent ≡ false → first (listRows storeList list) ≡ 0
+      → All (λ (r : Row). r .1 ≡ false) more → answer (first callRows) values ≡ (0, values)
+  call-passes values few h p =
+      rows-pass callRows values (
+        few,
+        all-append (λ (r : Row). r .1 ≡ false) (listRows storeList list) more (list-none storeList list h) p,
+      )
+
+  -- where the number is 0 none of them holds
+  pub call-sound : (us values : List ℕ) → All (λ (r : Row). 0 < r .0) more → answer (first callRows) values ≡ (0, us)
+      → (fewWords lent ≡ false) × (first (listRows storeList list) ≡ 0) × All (λ (r : Row). r .1 ≡ false) more
+      × (us ≡ values)
+  call-sound us values p e =
+      let a = answer-accepted (first callRows) us values (sym e) in
+      let b =
+      first-none callRows (omega arith, all-append (λ (r : Row). 0 < r .0) (listRows storeList list) more (omega arith) p)
+      (a .0) in
+      let c = rows-apart (listRows storeList list) more (b .1) in
+      (b .0, c .0, c .1, a .1)

@@ -6,6 +6,7 @@ pub mod Bytes
 pub mod Fields
 pub mod Rows
 pub mod RoundTrip
+pub mod Written
 -- Loops over records, and the forms of lists (2 to 6), slips (7) and pairings (9).
 pub mod Walk
 pub mod Forms

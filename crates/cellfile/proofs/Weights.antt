@@ -1,4 +1,5 @@
--- Laws of weighing: what an accepted list and pairing are like, and what each layer of the call answers.
+-- Laws of weighing: what an accepted list and pairing are like, and what each layer of the call answers; the whole call
+-- answers the points just where nothing is refused (`weigh-passes`, `weigh-sound`).
 use Prim.Native.Nat.{ℕ, _+_, _*_, _<_, _≤_}
 use mathlib.Core.Path.{_≡_, refl, sym, ap, ap₂, _∙_}
 use mathlib.Core.Bool.{Bool, true, false, not, cond, _&&_}
@@ -10,20 +11,21 @@ use lib.Dec.{ltb}
 use lib.ListN.{length, drop, getD}
 use Rattle.matching.specs.Lists.{all, distinct}
 use Rattle.matching.specs.Pairs.{Pair}
-use Rattle.matching.specs.Pairing.{cells, isPairing}
+use Rattle.matching.specs.Pairing.{Pairing, cells, isPairing}
 use Rattle.matching.specs.Listed.{Entry, joined, points}
 use Rattle.cellfile.specs.Fields.{fields}
 use Rattle.cellfile.specs.Files.{storeList, cellsOf, countOf, entriesOf, pairsOf}
 use Rattle.cellfile.specs.Refusals.{Row, first, fewWords, listRows, badPairing, noPairing}
 use Rattle.cellfile.specs.Answers.{Answer, answer, weighed}
-use Rattle.cellfile.specs.Weigh.{formRow, pairRow, weighing}
+use Rattle.cellfile.specs.Weigh.{formRow, pairRow, weight, weighing}
 use Rattle.cellfile.specs.Loops.{entries, pairs, merged}
 use Rattle.cellfile.specs.declared.Weighed.{Weighed}
 use Rattle.cellfile.specs.declared.Weighed.the-variants.{Refused, Points}
 use Rattle.matching.proofs.Alls.{all-map}
+use Rattle.matching.proofs.Pairing.{is-pairing}
 use Rattle.cellfile.proofs.Rows.{list-none, too-large-none, wrong-length-none, stray-entry-none, unordered-none}
 use Rattle.cellfile.proofs.Rows.{first-none, bad-pairing-none}
-use Rattle.cellfile.proofs.Layers.{answer-accepted, layer-refused, layer-passed}
+use Rattle.cellfile.proofs.Layers.{answer-accepted, layer-refused, layer-passed, call-passes, call-sound}
 use Rattle.cellfile.proofs.Merge.{merged-is}
 
 -- the rows of the pairing
@@ -170,3 +172,26 @@ module _ (list pairing : List ℕ) (a b : ℕ) where
         → r ≡ weighing list pairing (a ∷ b ∷ [])
     unfolding fewWords
     enough-words h p = rw (le-ltb a 8192 enough, le-ltb b 8192 h) p
+
+-- ---- the whole call
+
+module _ (list pairing lent : List ℕ) where
+  pub weigh-passes : fewWords lent ≡ false → first (listRows storeList list) ≡ 0
+      → badPairing (cellsOf list) pairing ≡ false
+      → noPairing (joined (entriesOf storeList list)) (pairsOf pairing) ≡ false
+      → weighing list pairing lent ≡ (0, points (entriesOf storeList list) (pairsOf pairing) ∷ [])
+  weigh-passes few h formed there =
+      call-passes list lent (rows list pairing) (weight list pairing) few h (formed, (there, tt))
+
+  pub weigh-sound : (k : ℕ) → weighing list pairing lent ≡ (0, k ∷ [])
+      → (first (listRows storeList list) ≡ 0) × (badPairing (cellsOf list) pairing ≡ false)
+      × Pairing (joined (entriesOf storeList list)) (pairsOf pairing)
+      × (k ≡ points (entriesOf storeList list) (pairsOf pairing))
+  weigh-sound k e =
+      let a = call-sound list lent (rows list pairing) (k ∷ []) (weight list pairing) (omega arith) e in
+      let there = joined (entriesOf storeList list) in (
+        a .1,
+        a .2 .0,
+        is-pairing there (pairsOf pairing) (not-false (isPairing there (pairsOf pairing)) (a .2 .1 .0)),
+        ap (λ (vs : List ℕ). getD vs 0 0) (a .3),
+      )

@@ -95,6 +95,17 @@ stepsOf s = map asPair (readEntries slip s)
 abbrev pub pairsOf : List ℕ → List Pair
 pairsOf s = map asPair (readEntries pairing s)
 
+-- The carried points of a short list.
+abbrev pub carriedOf : List ℕ → ℕ
+carriedOf s = getD (readFile shortList s .extra) 0 0
+
+-- The fields of an entry of a list, and of a pair of a pairing.
+abbrev pub asFields : Entry → List ℕ
+asFields e = e .0 ∷ e .1 ∷ e .2 ∷ []
+
+abbrev pub pairFields : Pair → List ℕ
+pairFields e = e .0 ∷ e .1 ∷ 0 ∷ []
+
 -- An output after a file was written to it: its first bytes are the file, the others are unchanged.
 unfoldable pub onto : List ℕ → List ℕ → List ℕ
 onto file out = file ++ drop (length file) out

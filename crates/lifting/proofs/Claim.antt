@@ -1,83 +1,59 @@
--- Demand 3 of the calls: `demand-three` of replay and lift, `demand-pair` of pair. In order: what is written is read again, the carried points of a
--- short list and the pairs of a pairing; the steps that a slip names; the claim. Assumes nothing.
-use mathlib.Core.Path.{_≡_, refl, sym, ap, ap₂, subst, _∙_}
-use mathlib.Core.Logic.{_≢_}
-use mathlib.Core.Bool.{Bool, true, false, not, cond, false≢true}
-use mathlib.Core.List.{List, [], _∷_, map}
-use mathlib.Core.Option.{Option, some, none}
-use Prim.Native.Nat.{ℕ, _+_, _≤_, _<_}
+-- Demand 3 of replay, lift and weigh: `demand-three`. In order: what steps that are allowed lift is read again, passes weigh
+-- and is heaviest where it was; a slip that is allowed, by the steps that it names; the claim; every pairing of the short
+-- list passes refusals 9 and 10 (`pairing-claim`), the empty one too (`empty-passes`); where lift answers 0 nothing was
+-- refused (`lift-sound`). Assumes nothing.
+use mathlib.Core.Path.{_≡_, sym, ap, ap₂, subst, _∙_}
+use mathlib.Core.Bool.{false, not}
+use mathlib.Core.List.{List, [], _∷_, _++_, map}
+use mathlib.Core.Option.{some}
+use Prim.Native.Nat.{ℕ, _+_, _≤_}
 use native.Mathlib.Omega.{arith}
-use lib.ListN.{length, getD, length-map}
-use borrow.Author.Tests.{le-ltb}
-use Rattle.matching.specs.Lists.{All}
+use lib.ListN.{length, getD}
+use borrow.Author.Tests.{not-false}
 use Rattle.matching.specs.Pairs.{Pair, Points, sum}
-use Rattle.matching.specs.Pairing.{Once, Pairing, Heaviest, isPairing}
-use Rattle.matching.specs.Graph.{cellsLeft}
-use Rattle.matching.specs.Listed.{Entry, Accepted, joined, listed, points, shortList, filed}
+use Rattle.matching.specs.Pairing.{Pairing, Heaviest, isPairing}
+use Rattle.matching.specs.Graph.{Graph}
+use Rattle.matching.specs.Listed.{Entry, Accepted, joined, points, filed}
 use Rattle.matching.specs.Demand.{NoGainNoLoss}
-use Rattle.matching.specs.Steps.{Rule, Step, name}
-use Rattle.matching.specs.Slip.{replay, left, carried, lift, bring}
-use Rattle.matching.proofs.Alls.{all-map, each-is-all}
-use Rattle.matching.proofs.Sums.{each-map}
-use Rattle.matching.proofs.Put.{pair-below, pair-apart}
+use Rattle.matching.specs.Steps.{Rule, Step}
+use Rattle.matching.specs.Ties.{Lifts}
+use Rattle.matching.specs.Slip.{replay, left, lift, bring}
 use Rattle.matching.proofs.Pairing.{is-pairing, present}
-use Rattle.matching.proofs.Entries.{joined-graph, list-trimmed}
-use Rattle.matching.proofs.Short.{short-entries}
+use Rattle.matching.proofs.Entries.{joined-graph, list-pairing, list-trimmed}
+use Rattle.matching.proofs.Short.{short-pairing, pairing-short, heaviest-short}
 use Rattle.matching.proofs.Fits.{Stands}
-use Rattle.matching.proofs.Tests.{Test, pass, fail, ltT}
-use Rattle.matching.proofs.Reduce.{replay-fits, reduce-ends}
-use Rattle.matching.proofs.Demand.{slip-graph, slip-brought, no-gain-no-loss, short-fewer}
-use Rattle.cellfile.specs.Files.{File, storeList, pairing as pairingLayout, shortList as shortLayout}
-use Rattle.cellfile.specs.Files.{cellsOf, entriesOf, stepsOf, asPair, pairsOf}
-use Rattle.cellfile.specs.Fits.{FitsFields, FitsFile}
-use Rattle.cellfile.specs.Refusals.{first, fewWords, listRows, shortOutput}
-use Rattle.cellfile.specs.Answers.{Answer, answer}
-use Rattle.cellfile.proofs.Rows.{list-none}
-use Rattle.cellfile.proofs.RoundTrip.{read-write}
-use Rattle.reduction.specs.Pairs.{asFields}
-use Rattle.reduction.specs.Calls.{graphIn, stand, stepsOn, shortFile, replayShort, asName, reduceSteps}
-use Rattle.reduction.proofs.Reducing.{reduce-allowed}
+use Rattle.matching.proofs.Reduce.{replay-fits}
+use Rattle.matching.proofs.Ways.{slip-lifts}
+use Rattle.matching.proofs.Demand.{slip-lifted, slip-brought, no-gain-no-loss}
+use Rattle.cellfile.specs.Files.{storeList, cellsOf, entriesOf, stepsOf, pairsOf}
+use Rattle.cellfile.specs.Refusals.{Row, first, fewWords, listRows, badPairing, noPairing, shortOutput}
+use Rattle.cellfile.specs.Weigh.{weighing}
+use Rattle.cellfile.proofs.Layers.{call-passes, call-sound}
+use Rattle.cellfile.proofs.Weights.{weigh-passes}
+use Rattle.reduction.specs.Calls.{graphIn, stepsOn, stand, asName}
+use Rattle.reduction.specs.Claims.{Allowed}
 use Rattle.reduction.proofs.Loading.{list-accepted}
-use Rattle.reduction.proofs.Courses.{list-graph, list-few, left-small}
-use Rattle.lifting.specs.Calls.{pairFile, liftedFile, liftFile, lifting, solution, pairingFile, pairing}
-use Rattle.lifting.specs.Demand.{carriedOf, short, lifted, Passes, Claim, leftOver, PairClaim}
-use Rattle.partners.specs.Words.{pairFields}
-use Rattle.partners.proofs.Tabled.{Within, pairing-half}
-use Rattle.lifting.proofs.Solution.{solution-heaviest}
+use Rattle.reduction.proofs.Courses.{list-graph}
+use Rattle.reduction.proofs.Claims.{graph-after, by-steps, steps-there, no-short, room-there}
+use Rattle.reduction.proofs.Claims.{short-is, carried-is, short-graph, heaviest-after, heaviest-level, steps-most}
+use Rattle.lifting.specs.Calls.{pairFile, graphAfter, liftedFile, bySteps, slipRows}
+use Rattle.lifting.specs.Calls.{liftFile, lifting, pairing}
+use Rattle.lifting.specs.Demand.{HeaviestOf, store, short, carried, Passes, PairingClaim, lifted, Claim}
+use Rattle.lifting.proofs.Filing.{file-read, file-formed, file-there, file-longest}
 
--- ---- what is written is read again
+-- Refusal 12.
+abbrev pub roomRow : List ℕ → ℕ → Row
+roomRow file room = (12, shortOutput ((room, length file) ∷ []))
 
-all-mapped : {A B : Type 0} (P : B → Type 0) (f : A → B) (xs : List A) → All (λ (x : A). P (f x)) xs → All P (map f xs)
-all-mapped P f [] p = tt
-all-mapped P f (x ∷ xs) p = (p .0, all-mapped P f xs (p .1))
+-- The rows of lift after those of the list.
+abbrev liftRows : (list slip pairing : List ℕ) (room : ℕ) → List Row
+liftRows list slip pairing room =
+    slipRows list slip ++ (9, badPairing (cellsOf list) pairing)
+    ∷ (10, noPairing (bySteps list slip (graphIn list) (graphAfter list)) (pairsOf pairing))
+    ∷ roomRow (liftFile list slip pairing) room ∷ []
 
-pairs-again : (m : List Pair) → map asPair (map pairFields m) ≡ m
-pairs-again [] = refl
-pairs-again (e ∷ m) = ap (λ es. e ∷ es) (pairs-again m)
+-- ---- what is lifted by steps that are allowed
 
--- the pairs of a pairing of n cells in order
-pub pairs-read : (n : ℕ) (m : List Pair) → n ≤ 1024 → Within n (filed m) → Once (filed m)
-    → pairsOf (pairFile n m) ≡ filed m
-pairs-read n m le p o =
-    ap (λ (f : File). map asPair (f .entries)) (read-write pairingLayout file fits) ∙ pairs-again (filed m)
-  where
-    file : File
-    file = record { cells = n; extra = []; entries = map pairFields (filed m) }
-
-    fits : FitsFile pairingLayout file
-    fits = record {
-      kind = omega arith;
-      cells = omega arith;
-      count = omega (arith, length-map (filed m) pairFields, pairing-half n (filed m) p o);
-      whole-extra = refl;
-      whole-entry = refl;
-      extra = tt;
-      entries = all-mapped (FitsFields (pairingLayout .entry)) pairFields (filed m)
-          (all-map (λ (e : Pair) q. (omega (arith, q .0), (omega (arith, q .1), (omega arith, tt)))) (filed m)
-          (each-is-all (λ a b. (a < n) × (b < n) × (a ≢ b)) (filed m) p));
-    }
-
--- the carried points of the short list that steps leave
 module _ (list : List ℕ) (h : first (listRows storeList list) ≡ 0) (rs : List (Rule × ℕ)) (ss : List Step)
     (allowed : replay (cellsOf list) (graphIn list) rs ≡ some ss) where
   abbrev n : ℕ
@@ -89,61 +65,39 @@ module _ (list : List ℕ) (h : first (listRows storeList list) ≡ 0) (rs : Lis
   accepted : Accepted n (entriesOf storeList list)
   accepted = list-accepted list h .1
 
-  small : (a b : ℕ) → left (graphIn list) ss a b + carried (graphIn list) ss < 17592186044416
-  small = left-small list h rs ss allowed
-
-  carried-read : carriedOf (shortFile list ss) ≡ carried (graphIn list) ss
-  carried-read = ap (λ (f : File). getD (f .extra) 0 0) (read-write shortLayout file fits)
-    where
-      entries : List Entry
-      entries = shortList n (left (graphIn list) ss)
-
-      file : File
-      file = record { cells = n; extra = carried (graphIn list) ss ∷ []; entries = map asFields entries }
-
-      fits : FitsFile shortLayout file
-      fits = record {
-        kind = omega arith;
-        cells = omega (arith, few);
-        count =
-            omega (
-              arith,
-              length-map entries asFields,
-              short-fewer n (entriesOf storeList list) accepted rs ss allowed,
-              list-few list h,
-            );
-        whole-extra = refl;
-        whole-entry = refl;
-        extra = (omega (arith, small 0 0), tt);
-        entries = all-mapped (FitsFields (shortLayout .entry)) asFields entries
-            (all-map (λ (e : Entry) q. (
-              omega (arith, q .up, q .below, few),
-              (omega (arith, q .below, few), (omega (arith, q .its, small (e .0) (e .1)), tt)),
-            )) entries (short-entries n (left (graphIn list) ss)));
-      }
-
-  -- ---- the way back
-
   stands : Stands (graphIn list) ss
   stands = replay-fits (list-graph list h) rs ss allowed .0
 
-  claim : NoGainNoLoss n (entriesOf storeList list) ss
-  claim = no-gain-no-loss n (entriesOf storeList list) accepted rs ss allowed
+  demand : NoGainNoLoss n (entriesOf storeList list) ss
+  demand = no-gain-no-loss n (entriesOf storeList list) accepted rs ss allowed
 
-  lifted-read : (m : List Pair) → Pairing (left (graphIn list) ss) m
-      → pairsOf (liftedFile list ss m) ≡ filed (lift (graphIn list) ss m)
-  lifted-read m p =
-      let u = claim .exact m p .0 in
-      pairs-read n (lift (graphIn list) ss m) few
-      (each-map (λ a b k. (let l = pair-below (joined-graph n (entriesOf storeList list) accepted) a b k in
-      (l .0, l .1, pair-apart (joined-graph n (entriesOf storeList list) accepted) a b k)))
-      (filed (lift (graphIn list) ss m)) (u .held))
-      (u .once)
+  module _ (m : List Pair) (p : Pairing (left (graphIn list) ss) m) where
+    lifted-pairing : Pairing (joined (entriesOf storeList list)) (lift (graphIn list) ss m)
+    lifted-pairing =
+        list-pairing (entriesOf storeList list) (lift (graphIn list) ss m)
+        (slip-lifted (list-graph list h) ss stands m p .0)
 
-  heaviest-lifted : (m : List Pair) → Heaviest (left (graphIn list) ss) (left (graphIn list) ss) m
-      → Heaviest (joined (entriesOf storeList list)) (listed (entriesOf storeList list)) (filed (lift (graphIn list) ss m))
+    pub lifted-read : pairsOf (liftedFile list ss m) ≡ filed (lift (graphIn list) ss m)
+    lifted-read =
+        file-read few (joined-graph n (entriesOf storeList list) accepted) (lift (graphIn list) ss m) lifted-pairing
+
+    pub lifted-longest : length (liftedFile list ss m) ≤ 1540
+    lifted-longest =
+        file-longest few (joined-graph n (entriesOf storeList list) accepted) (lift (graphIn list) ss m) lifted-pairing
+
+    -- weigh does not refuse it
+    pub lifted-weighs : (lent : List ℕ) → fewWords lent ≡ false → weighing list (liftedFile list ss m) lent
+        ≡ (0, points (entriesOf storeList list) (pairsOf (liftedFile list ss m)) ∷ [])
+    lifted-weighs lent enough =
+        let g = joined-graph n (entriesOf storeList list) accepted in
+        weigh-passes list (liftedFile list ss m) lent enough h
+        (file-formed few g (lift (graphIn list) ss m) lifted-pairing)
+        (file-there few g (lift (graphIn list) ss m) lifted-pairing)
+
+  pub heaviest-lifted : (m : List Pair) → Heaviest (left (graphIn list) ss) (left (graphIn list) ss) m
+      → HeaviestOf (entriesOf storeList list) (filed (lift (graphIn list) ss m))
   heaviest-lifted m q =
-      let x = claim .exact m (q .pairing) in
+      let x = demand .exact m (q .pairing) in
       record {
         pairing = x .0;
         most = λ k p. (
@@ -153,163 +107,183 @@ module _ (list : List ℕ) (h : first (listRows storeList list) ≡ 0) (rs : Lis
             );
       }
 
--- ---- the claim
+-- ---- a slip that is allowed, by the steps that it names
 
-sure : (t : Bool) → not t ≡ false → t ≡ true
-sure true e = refl
-sure false e = absurd (false≢true (sym e))
+module _ (list slip : List ℕ) (h : Allowed list slip) (ss : List Step) (e : stepsOn list (stepsOf slip) ≡ some ss) where
+  abbrev ok : first (listRows storeList list) ≡ 0
+  ok = h .list-passes
+
+  abbrev rs : List (Rule × ℕ)
+  rs = map asName (stepsOf slip)
+
+  abbrev after : Points
+  after = left (graphIn list) ss
+
+  pub left-graph : Graph (cellsOf list) after
+  left-graph = graph-after list ok rs ss e
+
+  same-graph : bySteps list slip (graphIn list) (graphAfter list) ≡ after
+  same-graph = by-steps list slip e (graphIn list) (graphAfter list)
+
+  -- pairings, and heaviest ones, of the short list are those of the graph left
+  pairing-after : (m : List Pair) → Pairing (joined (short list slip)) m → Pairing after m
+  pairing-after m p =
+      short-pairing (cellsOf list) after left-graph m
+      (subst (λ (es : List Entry). Pairing (joined es) m) (short-is list slip h ss e) p)
+
+  after-pairing : (m : List Pair) → Pairing after m → Pairing (joined (short list slip)) m
+  after-pairing m p =
+      subst (λ (es : List Entry). Pairing (joined es) m) (sym (short-is list slip h ss e))
+      (pairing-short (cellsOf list) after left-graph m p)
+
+  pub after-heaviest : (m : List Pair) → Heaviest after after m → HeaviestOf (short list slip) m
+  after-heaviest m p =
+      subst (λ (es : List Entry). HeaviestOf es m) (sym (short-is list slip h ss e))
+      (heaviest-short (cellsOf list) after left-graph m p)
+
+  -- the file of a pairing of the graph left
+  pub after-passes : (m : List Pair) → Pairing after m → Passes list slip (pairFile (cellsOf list) m)
+  after-passes m p = record {
+    allowed = h;
+    pairing-formed = file-formed (list-accepted list ok .0) left-graph m p;
+    pairing-there =
+        ap (λ (w : Points). noPairing w (pairsOf (pairFile (cellsOf list) m))) same-graph
+        ∙ file-there (list-accepted list ok .0) left-graph m p;
+  }
+
+-- ---- the claim
 
 module _ (list slip pairing : List ℕ) (h : Passes list slip pairing) where
   abbrev m : List Pair
   m = pairsOf pairing
 
-  -- by the steps that the slip names
+  abbrev al : Allowed list slip
+  al = h .allowed
+
+  answered : (lent : List ℕ) (room : ℕ) → fewWords lent ≡ false → length (liftFile list slip pairing) ≤ room
+      → lifting list slip pairing lent room ≡ (0, length (liftFile list slip pairing) ∷ [])
+  answered lent room enough l =
+      call-passes list lent (liftRows list slip pairing room) (length (liftFile list slip pairing) ∷ []) enough
+      (al .list-passes) (
+        al .slip-formed,
+        (
+          ap not (al .slip-stands),
+          (h .pairing-formed, (h .pairing-there, (no-short room (liftFile list slip pairing) l, tt))),
+        ),
+      )
+
   module _ (ss : List Step) (e : stepsOn list (stepsOf slip) ≡ some ss) where
-    abbrev after : Points
-    after = left (graphIn list) ss
-
-    abbrev rs : List (Rule × ℕ)
-    rs = map asName (stepsOf slip)
-
-    same-short : short list slip pairing ≡ after
-    same-short =
-        ap (λ (o : Option (List Step)). elim o [ none ↦ graphIn list | some ts ↦ left (graphIn list) ts ]) e
+    abbrev w′ : Points
+    w′ = left (graphIn list) ss
 
     same-file : liftFile list slip pairing ≡ liftedFile list ss m
-    same-file = ap (λ (o : Option (List Step)). elim o [ none ↦ [] | some ts ↦ liftedFile list ts m ]) e
+    same-file = by-steps list slip e [] (λ ts. liftedFile list ts m)
 
-    same-replay : replayShort list slip ≡ shortFile list ss
-    same-replay = ap (λ (o : Option (List Step)). elim o [ none ↦ [] | some ts ↦ shortFile list ts ]) e
-
-    fits : Pairing after m
+    fits : Pairing w′ m
     fits =
-        subst (λ (w : Points). Pairing w m) same-short
-        (is-pairing (short list slip pairing) m (sure (isPairing (short list slip pairing) m) (h .pairing-there)))
+        let there = bySteps list slip (graphIn list) (graphAfter list) in
+        subst (λ (w : Points). Pairing w m) (same-graph list slip al ss e)
+        (is-pairing there m (not-false (isPairing there m) (h .pairing-there)))
 
     same-lifted : lifted list slip pairing ≡ filed (lift (graphIn list) ss m)
-    same-lifted = ap pairsOf same-file ∙ lifted-read list (h .list-passes) rs ss e m fits
+    same-lifted = ap pairsOf same-file ∙ lifted-read list (al .list-passes) (map asName (stepsOf slip)) ss e m fits
 
-    demand : NoGainNoLoss (cellsOf list) (entriesOf storeList list) ss
-    demand = claim list (h .list-passes) rs ss e
+    whole : NoGainNoLoss (cellsOf list) (entriesOf storeList list) ss
+    whole = demand list (al .list-passes) (map asName (stepsOf slip)) ss e
 
-    answered : (lent : List ℕ) (room : ℕ) → fewWords lent ≡ false → length (liftFile list slip pairing) ≤ room
-        → lifting list slip pairing lent room ≡ (0, length (liftFile list slip pairing) ∷ [])
-    unfolding shortOutput
-    answered lent room few l =
-        let rows = list-none storeList list (h .list-passes) in
-        let no-eight : not (stand list (stepsOf slip)) ≡ false = ap not (h .slip-stands) in
-        rw (
-          few,
-          rows .0,
-          rows .1 .0,
-          rows .1 .1 .0,
-          rows .1 .1 .1 .0,
-          rows .1 .1 .1 .1 .0,
-          h .slip-formed,
-          no-eight,
-          h .pairing-formed,
-          h .pairing-there,
-          le-ltb room (length (liftFile list slip pairing)) l,
-        )
+    exactly : points (store list slip) (lifted list slip pairing) ≡ points (short list slip) m + carried list slip
+    exactly =
+        ap (points (entriesOf storeList list)) same-lifted
+        ∙ whole .exact m fits .1
+        ∙ ap₂ _+_ (ap (λ (w : Points). sum w m) (sym (short-graph list slip al ss e)))
+        (sym (carried-is list slip al ss e))
 
-    claimed : Claim list slip pairing
-    claimed = record {
+    weighed : (lent : List ℕ) → fewWords lent ≡ false → weighing list (liftFile list slip pairing) lent
+        ≡ (0, (points (short list slip) m + carried list slip) ∷ [])
+    weighed lent enough =
+        subst (λ (file : List ℕ). weighing list file lent ≡ (0, points (entriesOf storeList list) (pairsOf file) ∷ []))
+        (sym same-file)
+        (lifted-weighs list (al .list-passes) (map asName (stepsOf slip)) ss e m fits lent enough)
+        ∙ ap (λ (k : ℕ). (0, k ∷ [])) exactly
+
+    way-back : (up : List Pair) × Lifts (graphIn list) ss m up × (lifted list slip pairing ≡ filed up)
+    way-back =
+        let g = list-graph list (al .list-passes) in
+        let are = replay-fits g (map asName (stepsOf slip)) ss e .3 in
+        (lift (graphIn list) ss m, slip-lifts g (map asName (stepsOf slip)) ss are m fits .1, same-lifted)
+
+    claimed : ((ts : List Step) → stepsOn list (stepsOf slip) ≡ some ts
+        → (up : List Pair) × Lifts (graphIn list) ts m up × (lifted list slip pairing ≡ filed up))
+        → Claim list slip pairing
+    claimed back = record {
       answers = answered;
-      pairs = subst (Pairing (joined (entriesOf storeList list))) (sym same-lifted) (demand .exact m fits .0);
-      exact =
-          ap (points (entriesOf storeList list)) same-lifted
-          ∙ demand .exact m fits .1
-          ∙ ap₂ _+_ (ap (λ (w : Points). sum w m) (sym same-short))
-          (sym (ap carriedOf same-replay ∙ carried-read list (h .list-passes) rs ss e));
-      heaviest = λ q. subst (Heaviest (joined (entriesOf storeList list)) (listed (entriesOf storeList list)))
-          (sym same-lifted)
-          (heaviest-lifted list (h .list-passes) rs ss e m (subst (λ (w : Points). Heaviest w w m) same-short q));
+      longest = omega (
+        arith,
+        ap length same-file,
+        lifted-longest list (al .list-passes) (map asName (stepsOf slip)) ss e m fits,
+      );
+      there = after-pairing list slip al ss e m fits;
+      pairs = subst (Pairing (joined (entriesOf storeList list))) (sym same-lifted) (whole .exact m fits .0);
+      back = back;
+      exact = exactly;
+      weighs = weighed;
+      equal = heaviest-level list slip al ss e;
+      heaviest = λ q. subst (HeaviestOf (entriesOf storeList list)) (sym same-lifted)
+          (heaviest-lifted list (al .list-passes) (map asName (stepsOf slip)) ss e m
+          (heaviest-after list slip al ss e m q));
       level = λ a b d p q k. (
-          let q′ = subst (λ (w : Points). Heaviest w w b) same-short q in
-          let k′ : sum after b ≡ sum after m + d = subst (λ (w : Points). sum w b ≡ sum w m + d) same-short k in
-          demand .level a b m d p q′ fits k′ ∙ ap (λ (x : List Pair). points (entriesOf storeList list) x + d) (sym same-lifted)
+          let k′ : sum w′ b ≡ sum w′ m + d =
+          subst (λ (w : Points). sum w b ≡ sum w m + d) (short-graph list slip al ss e) k in
+          whole .level a b m d p (heaviest-after list slip al ss e b q) fits k′
+          ∙ ap (λ (x : List Pair). points (entriesOf storeList list) x + d) (sym same-lifted)
           );
-      steps =
-          omega (
-            arith,
-            demand .steps,
-            replay-fits (list-graph list (h .list-passes)) rs ss e .1,
-            length-map (stepsOf slip) asName,
-          );
+      steps = steps-most list slip al ss e;
     }
 
 -- Where refusals 2 to 10 say nothing of a list, a slip and a pairing, lift neither gains nor loses a point.
 pub demand-three : (list slip pairing : List ℕ) → Passes list slip pairing → Claim list slip pairing
-demand-three list slip pairing h = go (stepsOn list (stepsOf slip)) refl
-  where
-    go : (o : Option (List Step)) → stepsOn list (stepsOf slip) ≡ o → Claim list slip pairing
-    go none e =
-        absurd (false≢true (sym (ap (λ (o : Option (List Step)). elim o [ none ↦ false | some ss ↦ true ]) e)
-        ∙ h .slip-stands))
-    go (some ss) e = claimed list slip pairing h ss e
+demand-three list slip pairing h =
+    let s = steps-there list slip (h .allowed .slip-stands) in
+    claimed list slip pairing h (s .0) (s .1) (way-back list slip pairing h)
 
--- ---- the claim of pair
+-- Every pairing of the short list, in file order and written, may be lifted; so where a slip is allowed something may be.
+pub pairing-claim : (list slip : List ℕ) → Allowed list slip → (m : List Pair) → Pairing (joined (short list slip)) m
+    → PairingClaim list slip m
+pairing-claim list slip h m p =
+    let s = steps-there list slip (h .slip-stands) in
+    let q = pairing-after list slip h (s .0) (s .1) m p in
+    record {
+      passes = after-passes list slip h (s .0) (s .1) m q;
+      reads = file-read (list-accepted list (h .list-passes) .0) (left-graph list slip h (s .0) (s .1)) m q;
+    }
 
-module _ (list : List ℕ) (h : first (listRows storeList list) ≡ 0) where
-  -- the solution of what reduce leaves is heaviest there
-  pub best-left : Heaviest (leftOver list) (leftOver list) (solution (cellsOf list) (leftOver list))
-  best-left =
-      solution-heaviest (cellsOf list) (leftOver list)
-      (slip-graph (list-graph list h) (reduceSteps list)
-      (replay-fits (list-graph list h) (map name (reduceSteps list)) (reduceSteps list) (reduce-allowed list h) .0))
+pub empty-passes : (list slip : List ℕ) → Allowed list slip → Passes list slip (pairFile (cellsOf list) [])
+empty-passes list slip h = pairing-claim list slip h [] (record { held = tt; once = λ c. omega arith }) .passes
 
-  -- the pairs that pair writes
-  pub pairing-read : pairsOf (pairingFile list)
-      ≡ filed (lift (graphIn list) (reduceSteps list) (solution (cellsOf list) (leftOver list)))
-  pairing-read =
-      lifted-read list h (map name (reduceSteps list)) (reduceSteps list) (reduce-allowed list h)
-      (solution (cellsOf list) (leftOver list)) (best-left .pairing)
+-- ---- what the answer 0 tells
 
-  best-store : Heaviest (joined (entriesOf storeList list)) (listed (entriesOf storeList list))
-      (pairsOf (pairingFile list))
-  best-store =
-      subst (Heaviest (joined (entriesOf storeList list)) (listed (entriesOf storeList list)))
-      (sym pairing-read)
-      (heaviest-lifted list h (map name (reduceSteps list)) (reduceSteps list) (reduce-allowed list h)
-      (solution (cellsOf list) (leftOver list)) best-left)
+pub lift-sound : (list slip pairing lent : List ℕ) (room i : ℕ) → lifting list slip pairing lent room ≡ (0, i ∷ [])
+    → Passes list slip pairing × (fewWords lent ≡ false) × (length (liftFile list slip pairing) ≤ room)
+    × (i ≡ length (liftFile list slip pairing))
+lift-sound list slip pairing lent room i e =
+    let a =
+    call-sound list lent (liftRows list slip pairing room) (i ∷ []) (length (liftFile list slip pairing) ∷ [])
+    (omega arith) e in (
+      record {
+        allowed = record {
+          list-passes = a .1;
+          slip-formed = a .2 .0;
+          slip-stands = not-false (stand list (stepsOf slip)) (a .2 .1 .0);
+        };
+        pairing-formed = a .2 .1 .1 .0;
+        pairing-there = a .2 .1 .1 .1 .0;
+      },
+      a .0,
+      room-there room (liftFile list slip pairing) (a .2 .1 .1 .1 .1 .0),
+      ap (λ (vs : List ℕ). getD vs 0 0) (a .3),
+    )
 
-  abbrev k : ℕ
-  k = cellsLeft (cellsOf list) (leftOver list)
-
-  pair-answers : (lent : List ℕ) (room : ℕ) → fewWords lent ≡ false → k ≤ 12 → length (pairingFile list) ≤ room
-      → pairing list lent room ≡ (0, length (pairingFile list) ∷ [])
-  unfolding shortOutput
-  pair-answers lent room few c l =
-      let rows = list-none storeList list h in
-      rw (
-        few,
-        rows .0,
-        rows .1 .0,
-        rows .1 .1 .0,
-        rows .1 .1 .1 .0,
-        rows .1 .1 .1 .1 .0,
-        le-ltb 12 k c,
-        le-ltb room (length (pairingFile list)) l,
-      )
-
-  -- the answer by its rows: 1, those of the list, 11 and 12
-  pair-crowds : (lent : List ℕ) (room : ℕ) → pairing list lent room ≡ (11, []) → 12 < k
-  pair-crowds lent room e =
-      let rows = list-none storeList list h in
-      go (fewWords lent) (ltT 12 k) (shortOutput ((room, length (pairingFile list)) ∷ []))
-      (rw (rows .0, rows .1 .0, rows .1 .1 .0, rows .1 .1 .1 .0, rows .1 .1 .1 .1 .0) at e)
-    where
-      go : (f : Bool) {t : Bool} → Test (12 < k) (k ≤ 12) t → (s : Bool)
-          → answer (cond f 1 (cond t 11 (cond s 12 0))) (length (pairingFile list) ∷ []) ≡ (11, []) → 12 < k
-      go true y s q = absurd (omega (arith, ap (λ (a : Answer). a .0) q))
-      go false (pass l) s q = l
-      go false (fail l) true q = absurd (omega (arith, ap (λ (a : Answer). a .0) q))
-      go false (fail l) false q = absurd (omega (arith, ap (λ (a : Answer). a .0) q))
-
-  pub demand-pair : PairClaim list
-  demand-pair = record {
-    ended = reduce-ends (list-graph list h);
-    answers = pair-answers;
-    heaviest = best-store;
-    crowds = pair-crowds;
-  }
+pub lift-answered : (list slip pairing lent : List ℕ) (room i : ℕ) → lifting list slip pairing lent room ≡ (0, i ∷ [])
+    → Claim list slip pairing
+lift-answered list slip pairing lent room i e =
+    demand-three list slip pairing (lift-sound list slip pairing lent room i e .0)

@@ -14,7 +14,8 @@ use Rattle.cellfile.proofs.Fields.{fields-packed}
 use Rattle.cellfile.proofs.RoundTrip.{length-file}
 use Rattle.reduction.specs.Writing.{Does}
 use Rattle.reduction.proofs.Layers.{no-room, rooms}
-use Rattle.partners.specs.Words.{pairFields, pairWord}
+use Rattle.cellfile.specs.Files.{pairFields}
+use Rattle.partners.specs.Words.{pairWord}
 use Rattle.lifting.specs.Ending.{wordsFile}
 
 pairs-length : (n r : ℕ) (w1 : List ℕ) → r ≤ length w1 → 4 + 3 * r ≡ length (wordsFile n r w1)

@@ -1,7 +1,8 @@
 -- The solution as its file has it. In order: what is tried keeps what each trial has (`tries-keep`); the cells of a
 -- set's heaviest pairing are in the set (`solve-each`), and its pairs are in file order where the set ascends
 -- (`solve-in-order`); the cells that have pairs ascend, and are below n; so the solution is in file order
--- (`solution-filed`), its cells below n (`solution-cells`), and heaviest (`solution-heaviest`). Assumes nothing.
+-- (`solution-filed`), its cells below n (`solution-cells`), heaviest (`solution-heaviest`), and of those the first
+-- (`solution-first`). Assumes nothing.
 use mathlib.Core.Path.{_≡_, refl, sym, ap}
 use mathlib.Core.Logic.{_≢_}
 use mathlib.Core.Bool.{Bool, true, false, cond, _&&_, _||_}
@@ -13,7 +14,7 @@ use lib.ListN.{length}
 use Rattle.matching.specs.Lists.{All, mem}
 use Rattle.matching.specs.Pairs.{Pair, Points, sum, Each}
 use Rattle.matching.specs.Listed.{filed}
-use Rattle.matching.specs.Pairing.{Heaviest}
+use Rattle.matching.specs.Pairing.{Heaviest, First}
 use Rattle.matching.specs.Graph.{Graph, partners, degree}
 use Rattle.matching.specs.Solve.{less, tries, solve}
 use Rattle.matching.proofs.Alls.{Ascends, all-map, all-append, ascends-append}
@@ -24,7 +25,7 @@ use Rattle.matching.proofs.Tests.{Test, pass, fail, eqT, ltT}
 use Rattle.matching.proofs.Members.{or-left, or-right, no-mem, mem-head, mem-append}
 use Rattle.matching.proofs.Put.{pair-below}
 use Rattle.matching.proofs.Partners.{has-partner}
-use Rattle.matching.proofs.Foremost.{solve-heaviest}
+use Rattle.matching.proofs.Foremost.{solve-heaviest, solve-first}
 use Rattle.lifting.specs.Calls.{withPairs, solution}
 use Rattle.lifting.proofs.Gathering.{with-few}
 
@@ -109,14 +110,18 @@ module _ (n : ℕ) (w : Points) where
       go (pass e) (fail q) i = absurd (omega (arith, ap (degree n w) e))
       go (fail d) y i = or-left (mem c (withPairs n w k)) _ (i (omega arith))
 
-  pub solution-heaviest : Graph n w → Heaviest w w (solution n w)
-  solution-heaviest g = solve-heaviest n w g (withPairs n w n) (with-ascends n) all n (with-few n w n)
-    where
-      all : (a b : ℕ) → 0 < w a b → mem b (withPairs n w n) ≡ true
-      all a b h =
-          with-has n b (pair-below g a b h .1)
-          (some-partner (partners n w b) (has-partner g b a (omega (arith, g .turned a b))))
-        where
-          some-partner : (ps : List ℕ) → mem a ps ≡ true → 0 < length ps
-          some-partner [] m = no-mem a m
-          some-partner (x ∷ xs) m = omega arith
+  module _ (g : Graph n w) where
+    all : (a b : ℕ) → 0 < w a b → mem b (withPairs n w n) ≡ true
+    all a b h =
+        with-has n b (pair-below g a b h .1)
+        (some-partner (partners n w b) (has-partner g b a (omega (arith, g .turned a b))))
+      where
+        some-partner : (ps : List ℕ) → mem a ps ≡ true → 0 < length ps
+        some-partner [] m = no-mem a m
+        some-partner (x ∷ xs) m = omega arith
+
+    pub solution-heaviest : Heaviest w w (solution n w)
+    solution-heaviest = solve-heaviest n w g (withPairs n w n) (with-ascends n) all n (with-few n w n)
+
+    pub solution-first : (m : List Pair) → Heaviest w w m → First (solution n w) m
+    solution-first = solve-first n w g (withPairs n w n) (with-ascends n) all n (with-few n w n)

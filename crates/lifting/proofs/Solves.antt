@@ -21,7 +21,7 @@ use Rattle.reduction.specs.Writing.{Does}
 use Rattle.reduction.specs.Starting.{slipStart, StartDone}
 use Rattle.reduction.proofs.Layers.{refused, passed}
 use Rattle.reduction.proofs.Courses.{left-there}
-use Rattle.partners.specs.Words.{pairFields}
+use Rattle.cellfile.specs.Files.{pairFields}
 use Rattle.lifting.specs.Calls.{pairFile, solution, graphAfter, solvedFile, solveFile, bySteps}
 use Rattle.lifting.specs.Left.{LeftThere, SolvedIn}
 use Rattle.lifting.specs.Ending.{wordsFile}

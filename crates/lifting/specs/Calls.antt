@@ -16,7 +16,7 @@ use Rattle.cellfile.specs.Refusals.{Row, first, fewWords, listRows, badSlip, di
 use Rattle.cellfile.specs.Refusals.{crowded, shortOutput}
 use Rattle.cellfile.specs.Answers.{Answer, answer}
 use Rattle.reduction.specs.Calls.{graphIn, stepsOn, stand, reduceSteps}
-use Rattle.partners.specs.Words.{pairFields}
+use Rattle.cellfile.specs.Files.{pairFields}
 use Rattle.lifting.specs.declared.Paired.{Paired}
 use Rattle.lifting.specs.declared.Paired.the-variants.{Refused, Length}
 

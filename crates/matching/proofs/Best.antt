@@ -8,14 +8,15 @@ use mathlib.Core.List.{List, [], _∷_}
 use Prim.Native.Nat.{ℕ, _+_, _*_, _≤_, _<_, max}
 use native.Mathlib.Omega.{arith}
 use Rattle.matching.specs.Lists.{mem}
-use Rattle.matching.specs.Pairs.{Pair, Points, ι, sum, Each, hit, like}
+use Rattle.matching.specs.Pairs.{Pair, Points, ι, sum, Each, hit, like, without}
 use Rattle.matching.specs.Pairing.{Once}
 use Rattle.matching.specs.Best.{barred, H, pays, best}
+use Rattle.matching.specs.Ties.{Within}
 use Rattle.matching.proofs.Tests.{Test, pass, fail, isT, eqT, ltT, notT, mapT, fails}
 use Rattle.matching.proofs.Members.{Meets, Away, meetsT, mem-on, mem-head, mem-apart, mem-more}
 use Rattle.matching.proofs.Sums.{Turned, In, no-in, times-one, times-none, sum-none, sum-apart, hit-none}
 use Rattle.matching.proofs.Sums.{like-hit, like-once, once-cons}
-use Rattle.matching.proofs.Sums.{without, without-once, without-none, without-in}
+use Rattle.matching.proofs.Sums.{without-once, without-none, without-in}
 
 -- ---- the recurrences
 
@@ -177,12 +178,6 @@ module _ (w : Points) (off : List ℕ) (e : Pair) (es : List Pair) where
 
   H-in : Away off (e .0) (e .1) → taking w off e es ≤ H w off (e ∷ es)
   H-in c = rw (H-cons w off e es, c .0, c .1) (omega arith)
-
--- A pairing m of the pairs es that leaves the cells `off` free.
-pub record Within (off : List ℕ) (es m : List Pair) : Type 0 where
-  pub among : Each (In es) m
-  pub once : Once m
-  pub free : (c : ℕ) → mem c off ≡ true → sum (hit c) m ≡ 0
 
 -- Such a pairing of e and es without its pair e.
 module _ (off : List ℕ) (e : Pair) (es m : List Pair) (p : Within off (e ∷ es) m) where

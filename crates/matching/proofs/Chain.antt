@@ -8,7 +8,7 @@ use mathlib.Core.List.{List, [], _∷_, _++_}
 use Prim.Native.Nat.{ℕ, _+_, _*_, _-_, _≤_, _<_, max}
 use native.Mathlib.Omega.{arith}
 use Rattle.matching.specs.Lists.{mem}
-use Rattle.matching.specs.Pairs.{Pair, Points, sum, Each, keep, hit, same, like}
+use Rattle.matching.specs.Pairs.{Pair, Points, sum, Each, keep, hit, same, like, without}
 use Rattle.matching.specs.Pairing.{Once, Pairing}
 use Rattle.matching.specs.Graph.{Graph, put, dropped}
 use Rattle.matching.specs.Best.{H, best, tie, walk}
@@ -16,7 +16,7 @@ use Rattle.matching.specs.Steps.{chain, chained, undo, outside, down}
 use Rattle.matching.proofs.Tests.{Test, pass, fail, isT, eqT, ltT, notT, andT, orT, holds, fails}
 use Rattle.matching.proofs.Members.{Away, no-mem, mem-on, mem-head, mem-apart, mem-more}
 use Rattle.matching.proofs.Pairs.{Same, sameT}
-use Rattle.matching.proofs.Sums.{Turned, without, times-none, one-times, sum-apart, sum-unless, turned-same}
+use Rattle.matching.proofs.Sums.{Turned, times-none, one-times, sum-apart, sum-unless, turned-same}
 use Rattle.matching.proofs.Sums.{each-keep, keep-and, hit-left, hit-right, hit-some, hit-turned, like-turned}
 use Rattle.matching.proofs.Sums.{once-cons}
 use Rattle.matching.proofs.Best.{H-less}

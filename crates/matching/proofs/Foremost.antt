@@ -12,14 +12,14 @@ use native.Mathlib.Omega.{arith}
 use lib.Dec.{ltb}
 use lib.ListN.{length}
 use Rattle.matching.specs.Lists.{mem, All}
-use Rattle.matching.specs.Pairs.{Pair, Points, sum, hit, same, like}
-use Rattle.matching.specs.Pairing.{mate, partner, Pairing, Heaviest}
+use Rattle.matching.specs.Pairs.{Pair, Points, sum, hit, same, like, without}
+use Rattle.matching.specs.Pairing.{mate, partner, First, Pairing, Heaviest}
 use Rattle.matching.specs.Graph.{Graph}
 use Rattle.matching.specs.Solve.{less, tries, solve}
 use Rattle.matching.proofs.Tests.{Test, pass, fail, isT, eqT, ltT, andT, passes, fails}
 use Rattle.matching.proofs.Members.{no-mem, mem-on, mem-head, mem-apart, mem-more, mem-not, mem-past}
 use Rattle.matching.proofs.Alls.{all-mem, all-members, Ascends}
-use Rattle.matching.proofs.Sums.{without, sum-none, each-keep, hit-none, hit-some}
+use Rattle.matching.proofs.Sums.{sum-none, each-keep, hit-none, hit-some}
 use Rattle.matching.proofs.Sums.{once-cons, without-once, without-none, like-hit}
 use Rattle.matching.proofs.Solve.{less-gone, less-past, less-length, less-ascends}
 use Rattle.matching.proofs.Partner.{
@@ -31,7 +31,6 @@ use Rattle.matching.proofs.Partner.{
   held-sum,
   held-free,
   held-points,
-  First,
   first-more,
 }
 

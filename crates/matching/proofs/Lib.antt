@@ -44,6 +44,9 @@ pub mod Demand
 pub mod Solve
 pub mod Partner
 pub mod Foremost
+-- The ties of what is written; the published rules.
+pub mod Ways
+pub mod Published
 -- Worked lists.
 pub mod Worked
 pub mod WrongTurns

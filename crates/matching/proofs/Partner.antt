@@ -1,6 +1,6 @@
 -- The partner of a cell in a pairing, as a number. In order: 0 for none and the partner's number and 1 otherwise
 -- (`partner-none`, `partner-of`); a pair that is held, and the others; which of two pairings comes first by its
--- partners (`First`). Assumes nothing.
+-- partners, with the same pairs put in (`first-more`). Assumes nothing.
 use mathlib.Core.Path.{_≡_, refl, ap, ap₂}
 use mathlib.Core.Logic.{_⊎_, inl, inr, _≢_}
 use mathlib.Core.Bool.{Bool, true, false, cond}
@@ -9,22 +9,12 @@ use Prim.Native.Nat.{ℕ, suc, _+_, _≤_, _<_}
 use native.Mathlib.Omega.{arith}
 use lib.Dec.{eqb}
 use borrow.Author.Tests.{eq-eqb}
-use Rattle.matching.specs.Pairs.{Pair, Points, ι, sum, Each, hit, like}
-use Rattle.matching.specs.Pairing.{Once, mate, partner}
+use Rattle.matching.specs.Pairs.{Pair, Points, ι, sum, Each, hit, like, without}
+use Rattle.matching.specs.Pairing.{Once, mate, partner, First}
 use Rattle.matching.proofs.Tests.{Test, pass, fail, eqT}
 use Rattle.matching.proofs.Pairs.{Same, Apart, sameT}
-use Rattle.matching.proofs.Sums.{
-  without,
-  times-one,
-  sum-apart,
-  sum-none,
-  each-zero,
-  hit-none,
-  like-self,
-  like-turned,
-  like-once,
-}
-use Rattle.matching.proofs.Sums.{like-hit}
+use Rattle.matching.proofs.Sums.{times-one, sum-apart, sum-none, each-zero, hit-none, like-self}
+use Rattle.matching.proofs.Sums.{like-turned, like-once, like-hit}
 
 -- ---- the partner of a cell
 
@@ -100,12 +90,6 @@ held-points w t x y (e ∷ m) p h = go (sameT x y (e .0) (e .1)) h (held-points 
     go (fail n) h i = i (omega arith)
 
 -- ---- which pairing comes first
-
--- 'Look at the lowest cell whose partner differs: unpaired comes first, then the lower partner.'
-abbrev pub First : List Pair → List Pair → Type 0
-First s m =
-    ((d : ℕ) → partner d s ≡ partner d m)
-    ⊎ ((c : ℕ) × ((d : ℕ) → d < c → partner d s ≡ partner d m) × (partner c s < partner c m))
 
 -- with the same pairs put in
 pub first-more : (f : ℕ → ℕ) (s m s′ m′ : List Pair) → ((d : ℕ) → partner d s′ ≡ f d + partner d s)

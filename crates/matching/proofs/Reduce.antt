@@ -1,27 +1,30 @@
 -- Slips and reduce. In order: the steps that a slip names stand, each on what the one before it left (`replay-fits`),
--- and there are no more of them than cells (`slip-count`); the steps of reduce are allowed (`reduce-replay`), come
+-- and are what the description calls so (`replay-is`); there are no more of them than cells (`slip-count`); the steps of reduce are allowed (`reduce-replay`), come
 -- in parts (`reduce-append`), and after them none is (`reduce-ends`).
 use mathlib.Core.Path.{_≡_, refl, ap, ap₂, subst, _∙_}
+use mathlib.Core.Logic.{_↔_}
 use mathlib.Core.List.{List, [], _∷_, _++_, map}
 use mathlib.Core.Option.{Option, some, none}
 use Prim.Native.Nat.{ℕ, zero, suc, _+_, _≤_}
 use native.Mathlib.Omega.{arith}
 use lib.ListN.{length}
+use Rattle.matching.specs.Lists.{together}
 use Rattle.matching.specs.Pairs.{Points}
 use Rattle.matching.specs.Graph.{Graph, cellsLeft}
-use Rattle.matching.specs.Steps.{Rule, Step, apply, name}
+use Rattle.matching.specs.Steps.{Rule, Step, apply, carry, name}
 use Rattle.matching.specs.Find.{stepAt, firstStep}
-use Rattle.matching.specs.Slip.{replay, left, reduce}
+use Rattle.matching.specs.Slip.{replay, AreSteps, left, carries, carried, reduce}
 use Rattle.matching.proofs.Fits.{Fits, Stands}
-use Rattle.matching.proofs.Find.{step-is, step-name, step-fits, first-step-is}
+use Rattle.matching.proofs.Find.{step-is, step-found, step-name, is-fits, step-fits, first-step-is}
 use Rattle.matching.proofs.Tally.{cells-most}
 use Rattle.matching.proofs.Count.{step-fewer}
 use Rattle.matching.proofs.Exact.{step-graph}
 
 -- What replaying a slip tells, where all its steps are allowed.
-abbrev Replayed : Points → List (Rule × ℕ) → Option (List Step) → Type 0
-Replayed w slip none = Unit {0}
-Replayed w slip (some ss) = Stands w ss × (length ss ≡ length slip) × (map name ss ≡ slip)
+abbrev Replayed : ℕ → Points → List (Rule × ℕ) → Option (List Step) → Type 0
+Replayed n w slip none = Unit {0}
+Replayed n w slip (some ss) =
+    Stands w ss × (length ss ≡ length slip) × (map name ss ≡ slip) × AreSteps n w slip ss
 
 -- The steps of reduce, by the first step.
 abbrev steps : ℕ → ℕ → Points → Option Step → List Step
@@ -35,13 +38,13 @@ replay-more n w r s rs ss h k = rw (h, replay) (rw k)
 first-fits : {n : ℕ} {w : Points} → Graph n w → (s : Step) → firstStep n w ≡ some s → Fits w s
 first-fits g s h = step-fits g (name s .0) (name s .1) s (first-step-is g s h)
 
-replayed : {n : ℕ} {w : Points} → Graph n w → (slip : List (Rule × ℕ)) → Replayed w slip (replay n w slip)
-replayed g [] = (tt, refl, refl)
+replayed : {n : ℕ} {w : Points} → Graph n w → (slip : List (Rule × ℕ)) → Replayed n w slip (replay n w slip)
+replayed g [] = (tt, refl, refl, tt)
 replayed {n} {w} g (r ∷ rs) = go (stepAt n w (r .0) (r .1)) refl (λ s f. replayed (step-graph g s f) rs)
   where
     go : (o : Option Step) → stepAt n w (r .0) (r .1) ≡ o
-        → ((s : Step) → Fits w s → Replayed (apply w s) rs (replay n (apply w s) rs))
-        → Replayed w (r ∷ rs) (elim o [
+        → ((s : Step) → Fits w s → Replayed n (apply w s) rs (replay n (apply w s) rs))
+        → Replayed n w (r ∷ rs) (elim o [
           | none ↦ none
           | some s ↦ elim (replay n (apply w s) rs) [ none ↦ none | some ss ↦ some (s ∷ ss) ]
         ])
@@ -51,15 +54,36 @@ replayed {n} {w} g (r ∷ rs) = go (stepAt n w (r .0) (r .1)) refl (λ s f. repl
         fits : Fits w s
         fits = step-fits g (r .0) (r .1) s e
 
-        on : (o : Option (List Step)) → Replayed (apply w s) rs o
-            → Replayed w (r ∷ rs) (elim o [ none ↦ none | some ss ↦ some (s ∷ ss) ])
+        on : (o : Option (List Step)) → Replayed n (apply w s) rs o
+            → Replayed n w (r ∷ rs) (elim o [ none ↦ none | some ss ↦ some (s ∷ ss) ])
         on none p = tt
         on (some ss) p =
-            ((fits, p .0), ap suc (p .1), ap₂ _∷_ (step-name g (r .0) (r .1) s (step-is g (r .0) (r .1) s e)) (p .2))
+            let is = step-is g (r .0) (r .1) s e in
+            ((fits, p .0), ap suc (p .1), ap₂ _∷_ (step-name g (r .0) (r .1) s is) (p .2), (is, p .3))
 
 pub replay-fits : {n : ℕ} {w : Points} → Graph n w → (slip : List (Rule × ℕ)) (ss : List Step)
-    → replay n w slip ≡ some ss → Stands w ss × (length ss ≡ length slip) × (map name ss ≡ slip)
-replay-fits {w = w} g slip ss h = subst (Replayed w slip) h (replayed g slip)
+    → replay n w slip ≡ some ss
+    → Stands w ss × (length ss ≡ length slip) × (map name ss ≡ slip) × AreSteps n w slip ss
+replay-fits {n} {w} g slip ss h = subst (Replayed n w slip) h (replayed g slip)
+
+-- A slip is replayed just where each of its steps is allowed where it stands.
+are-replay : {n : ℕ} {w : Points} → Graph n w → (slip : List (Rule × ℕ)) (ss : List Step) → AreSteps n w slip ss
+    → replay n w slip ≡ some ss
+are-replay g [] [] p = refl
+are-replay g [] (s ∷ ss) p = absurd p
+are-replay g (r ∷ rs) [] p = absurd p
+are-replay {n} {w} g (r ∷ rs) (s ∷ ss) p =
+    replay-more n w r s rs ss (step-found g (r .0) (r .1) s (p .0))
+    (are-replay (step-graph g s (is-fits g (r .0) (r .1) s (p .0))) rs ss (p .1))
+
+pub replay-is : {n : ℕ} {w : Points} → Graph n w → (slip : List (Rule × ℕ)) (ss : List Step)
+    → (replay n w slip ≡ some ss) ↔ AreSteps n w slip ss
+replay-is g slip ss = (λ h. replay-fits g slip ss h .3, λ p. are-replay g slip ss p)
+
+-- The carried points are what the steps carry, together.
+pub carried-sum : (w : Points) (ss : List Step) → carried w ss ≡ together (carries w ss)
+carried-sum w [] = refl
+carried-sum w (s ∷ ss) = ap (λ k. carry w s + k) (carried-sum (apply w s) ss)
 
 pub slip-count : {n : ℕ} {w : Points} → Graph n w → (ss : List Step) → Stands w ss
     → length ss + cellsLeft n (left w ss) ≤ cellsLeft n w

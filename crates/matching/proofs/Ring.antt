@@ -9,14 +9,14 @@ use Prim.Native.Nat.{ℕ, _+_, _*_, _-_, _≤_, _<_}
 use native.Mathlib.Omega.{arith}
 use borrow.Author.Tests.{not-true}
 use Rattle.matching.specs.Lists.{mem}
-use Rattle.matching.specs.Pairs.{Pair, Points, sum, Each, hit, same, like}
+use Rattle.matching.specs.Pairs.{Pair, Points, sum, Each, hit, same, like, without}
 use Rattle.matching.specs.Pairing.{Once, Pairing}
 use Rattle.matching.specs.Graph.{Graph, dropped}
 use Rattle.matching.specs.Best.{H, best, tie, walk}
 use Rattle.matching.specs.Steps.{ring, ringed, undo, outside, down}
 use Rattle.matching.proofs.Tests.{Test, pass, fail, eqT, ltT}
 use Rattle.matching.proofs.Members.{Away, no-mem, mem-head, mem-apart, mem-more}
-use Rattle.matching.proofs.Sums.{Turned, without, times-one, times-none, sum-apart, each-keep, hit-some}
+use Rattle.matching.proofs.Sums.{Turned, times-one, times-none, sum-apart, each-keep, hit-some}
 use Rattle.matching.proofs.Sums.{like-once, once-cons}
 use Rattle.matching.proofs.Best.{H-mono}
 use Rattle.matching.proofs.Put.{put-at, put-else, put-graph, dropped-out, dropped-held, dropped-graph}

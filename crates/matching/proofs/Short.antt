@@ -1,7 +1,8 @@
 -- The short list of a graph. In order: what its entries are, their order, and that each pair is there; so it is an
 -- accepted list (`short-accepted`), has the graph's points (`short-points`), joins the pairs above zero
--- (`short-joined`) and has the graph's pairings (`short-pairing`, `pairing-short`). Assumes nothing.
-use mathlib.Core.Path.{_≡_, refl, sym, ap, _∙_}
+-- (`short-joined`) and has the graph's pairings (`short-pairing`, `pairing-short`) and heaviest pairings
+-- (`short-heaviest`, `heaviest-short`). Assumes nothing.
+use mathlib.Core.Path.{_≡_, refl, sym, ap, subst, _∙_, fun-ext}
 use mathlib.Core.Logic.{inl, inr, _≢_}
 use mathlib.Core.Bool.{Bool, true, false, cond, _&&_}
 use mathlib.Core.List.{List, [], _∷_, _++_}
@@ -10,8 +11,8 @@ use native.Mathlib.Omega.{arith}
 use lib.Dec.{ltb}
 use borrow.Author.Tests.{lt-ltb}
 use Rattle.matching.specs.Lists.{All}
-use Rattle.matching.specs.Pairs.{Pair, Points, ι}
-use Rattle.matching.specs.Pairing.{Pairing}
+use Rattle.matching.specs.Pairs.{Pair, Points, ι, sum}
+use Rattle.matching.specs.Pairing.{Pairing, Heaviest}
 use Rattle.matching.specs.Listed.{Entry, Before, Accepted, joined, listed, shortAt, shortBelow, shortList}
 use Rattle.matching.specs.Graph.{Graph}
 use Rattle.matching.proofs.Tests.{Test, pass, fail, eqT, ltT, andT}
@@ -187,3 +188,21 @@ module _ (n : ℕ) (w : Points) (g : Graph n w) where
     where
       at : (a b : ℕ) → 0 < w a b → 0 < joined short a b
       at a b h = listed-joined short a b (omega (arith, short-points a b))
+
+  -- as points, and so the heaviest
+  pub short-listed : listed (shortList n w) ≡ w
+  short-listed = fun-ext (λ a. fun-ext (λ b. short-points a b))
+
+  pub short-heaviest : (m : List Pair) → Heaviest (joined (shortList n w)) (listed (shortList n w)) m → Heaviest w w m
+  short-heaviest m h =
+      record {
+        pairing = short-pairing m (h .pairing);
+        most = λ k p. subst (λ (v : Points). sum v k ≤ sum v m) short-listed (h .most k (pairing-short k p));
+      }
+
+  pub heaviest-short : (m : List Pair) → Heaviest w w m → Heaviest (joined (shortList n w)) (listed (shortList n w)) m
+  heaviest-short m h =
+      record {
+        pairing = pairing-short m (h .pairing);
+        most = λ k p. subst (λ (v : Points). sum v k ≤ sum v m) (sym short-listed) (h .most k (short-pairing k p));
+      }

@@ -9,7 +9,7 @@ use native.Mathlib.Omega.{arith}
 use native.Mathlib.Nat.{mul-le-mul-left, mul-le-mul-right}
 use lib.Dec.{eqb}
 use borrow.Author.Tests.{eq-eqb, ne-eqb}
-use Rattle.matching.specs.Pairs.{Pair, Points, ι, sum, Each, keep, touches, hit, same, like}
+use Rattle.matching.specs.Pairs.{Pair, Points, ι, sum, Each, keep, touches, hit, same, like, without}
 use Rattle.matching.specs.Pairing.{Once}
 use Rattle.matching.proofs.Tests.{Test, pass, fail, isT, eqT, ltT, notT, orT, holds, fails}
 use Rattle.matching.proofs.Pairs.{Same, Apart, sameT}
@@ -199,10 +199,6 @@ like-same x y a b = go (sameT x y a b)
     go : {t : Bool} → Test (Same x y a b) (Apart x y a b) t → 1 ≤ ι t → Same x y a b
     go (pass p) h = p
     go (fail n) h = (let z : ⊥ = omega arith in absurd z)
-
--- the pairs but x, y
-abbrev pub without : ℕ → ℕ → List Pair → List Pair
-without x y m = keep (λ a b. not (same x y a b)) m
 
 pub sum-apart : (f : Points) → ((a b : ℕ) → f a b ≡ f b a) → (x y : ℕ) (m : List Pair)
     → sum f m ≡ f x y * sum (like x y) m + sum f (without x y m)

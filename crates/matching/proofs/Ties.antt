@@ -5,34 +5,23 @@ use mathlib.Core.Path.{_≡_, refl, sym, _∙_}
 use mathlib.Core.Logic.{_⊎_, inl, inr, _≢_}
 use mathlib.Core.Bool.{Bool, true, false}
 use mathlib.Core.List.{List, [], _∷_}
-use Prim.Native.Nat.{ℕ, _+_, _*_, _≤_}
+use Prim.Native.Nat.{ℕ, _+_, _*_}
 use native.Mathlib.Omega.{arith}
 use lib.Dec.{eqb}
 use borrow.Author.Tests.{eq-eqb, ne-eqb}
-use Rattle.matching.specs.Pairs.{Pair, Points, sum, Each, like}
+use Rattle.matching.specs.Pairs.{Pair, Points, sum, Each, like, without}
 use Rattle.matching.specs.Best.{H, best}
+use Rattle.matching.specs.Ties.{Within, Earlier}
 use Rattle.matching.proofs.Tests.{Test, pass, fail, eqT}
-use Rattle.matching.proofs.Sums.{Turned, without, times-one, times-none, none-times, sum-none, sum-apart}
+use Rattle.matching.proofs.Sums.{Turned, times-one, times-none, none-times, sum-none, sum-apart}
 use Rattle.matching.proofs.Sums.{each-map, and-turn, like-turned, like-self, like-once}
 use Rattle.matching.proofs.Best.{both, Choice, bars, leaves, takes, choice, best-each}
-use Rattle.matching.proofs.Best.{Within, within-out, within-in, within-barred, best-most}
+use Rattle.matching.proofs.Best.{within-out, within-in, within-barred, best-most}
 
 -- No pair of the list stands twice in it, in either order.
 abbrev pub Differ : List Pair → Type 0
 Differ [] = Unit {0}
 Differ (e ∷ es) = Each (λ a b. like (e .0) (e .1) a b ≡ 0) es × Differ es
-
--- The first has not the pair that the second has (the tie false), or has the pair that the second has not.
-abbrev pub Ahead : Bool → ℕ → ℕ → Type 0
-Ahead false k l = (k ≡ 0) × (1 ≤ l)
-Ahead true k l = (1 ≤ k) × (l ≡ 0)
-
--- At the first pair of es where m and n differ, if there is one, m is ahead.
-abbrev pub Earlier : Bool → List Pair → List Pair → List Pair → Type 0
-Earlier t [] m n = Unit {0}
-Earlier t (e ∷ es) m n =
-    Ahead t (sum (like (e .0) (e .1)) m) (sum (like (e .0) (e .1)) n)
-    ⊎ ((sum (like (e .0) (e .1)) m ≡ sum (like (e .0) (e .1)) n) × Earlier t es m n)
 
 -- Only how often each pair of es is held counts.
 earlier-ext : (t : Bool) (es m n m′ n′ : List Pair)

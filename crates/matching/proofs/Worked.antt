@@ -3,7 +3,8 @@ use mathlib.Core.Path.{_≡_, refl}
 use mathlib.Core.List.{map}
 use Rattle.matching.specs.Lists.{All}
 use Rattle.matching.specs.Pairs.{hit, like}
-use Rattle.matching.specs.Listed.{listed}
+use Rattle.matching.specs.Pairing.{isPairing}
+use Rattle.matching.specs.Listed.{joined, listed}
 use Rattle.matching.specs.Graph.{partners, put, dropped}
 use Rattle.matching.specs.Best.{H, best, tie}
 use Rattle.matching.specs.Steps.{leafed, ringed, chained}
@@ -13,7 +14,8 @@ use Rattle.matching.proofs.Alls.{map-agree}
 
 -- the test
 pub table : map (λ (r : Row). outcome (r .0)) rows ≡ map (λ (r : Row). r .1) rows
-unfolding rows outcome listed partners put dropped H best tie leafed ringed chained stepAt firstStep hit like
+unfolding rows outcome isPairing joined listed partners put dropped H best tie leafed ringed chained stepAt firstStep
+    hit like
 table = refl
 
 -- what it says of each row

@@ -1,5 +1,5 @@
 -- Pairings (matchings) of lists of weighted pairs and the reduction steps, in the words of the product's description.
--- In reading order: pairs and pairings; lists and graphs; the best of some pairs; steps; where a step stands, and
+-- In reading order: pairs and pairings; lists and graphs; the best of some pairs; steps, and the way back by ties; where a step stands, and
 -- finding it; slips, and what is demanded of them; solving; worked lists.
 pub mod Lists
 pub mod Pairs
@@ -8,7 +8,9 @@ pub mod Listed
 pub mod Graph
 pub mod Best
 pub mod Steps
+pub mod Ties
 pub mod Shapes
+pub mod Published
 pub mod Find
 pub mod Slip
 pub mod Demand

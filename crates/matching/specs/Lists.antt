@@ -1,7 +1,7 @@
 -- Tests and statements over lists.
 use mathlib.Core.Bool.{Bool, true, false, _&&_, _||_, not}
 use mathlib.Core.List.{List, [], _∷_}
-use Prim.Native.Nat.{ℕ}
+use Prim.Native.Nat.{ℕ, _+_}
 use lib.Dec.{eqb}
 
 -- Whether every element, or some element, passes the test.
@@ -27,3 +27,8 @@ distinct (x ∷ xs) = not (mem x xs) && distinct xs
 abbrev pub All : {A : Type 0} → (A → Type 0) → List A → Type 0
 All P [] = Unit {0}
 All P (x ∷ xs) = P x × All P xs
+
+-- The numbers together.
+abbrev pub together : List ℕ → ℕ
+together [] = 0
+together (x ∷ xs) = x + together xs

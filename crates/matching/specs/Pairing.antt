@@ -1,4 +1,6 @@
 -- A pairing (matching) of a list or graph: 'a set of its pairs in which no cell stands twice, the empty set too'.
+use mathlib.Core.Path.{_≡_}
+use mathlib.Core.Logic.{_⊎_}
 use mathlib.Core.Bool.{Bool, cond, _&&_}
 use mathlib.Core.List.{List, [], _∷_}
 use Prim.Native.Nat.{ℕ, suc, _≤_, _<_}
@@ -27,6 +29,13 @@ mate c a b = cond (eqb a c) (suc b) (cond (eqb b c) (suc a) 0)
 
 abbrev pub partner : ℕ → List Pair → ℕ
 partner c m = sum (mate c) m
+
+-- Of two pairings s comes first, or they have the same partners. 'Look at the lowest cell whose partner differs: unpaired
+-- comes first, then the lower partner.'
+abbrev pub First : List Pair → List Pair → Type 0
+First s m =
+    ((d : ℕ) → partner d s ≡ partner d m)
+    ⊎ ((c : ℕ) × ((d : ℕ) → d < c → partner d s ≡ partner d m) × (partner c s < partner c m))
 
 -- The cells of the pairs, one after the other.
 abbrev pub cells : List Pair → List ℕ

@@ -1,5 +1,5 @@
 -- Pairs of cells (edges of a graph), and sums over lists of them.
-use mathlib.Core.Bool.{Bool, true, false, cond, _&&_, _||_}
+use mathlib.Core.Bool.{Bool, true, false, not, cond, _&&_, _||_}
 use mathlib.Core.List.{List, [], _∷_}
 use Prim.Native.Nat.{ℕ, _+_}
 use lib.Dec.{eqb, ltb}
@@ -45,6 +45,10 @@ same x y a b = (eqb a x && eqb b y) || (eqb a y && eqb b x)
 
 unfoldable pub like : ℕ → ℕ → Points
 like x y a b = ι (same x y a b)
+
+-- The pairs but x, y.
+abbrev pub without : ℕ → ℕ → List Pair → List Pair
+without x y m = keep (λ a b. not (same x y a b)) m
 
 -- Whether the pairs hold the pair x, y; whether they leave the cell c unpaired.
 abbrev pub held : ℕ → ℕ → List Pair → Bool

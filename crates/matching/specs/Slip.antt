@@ -4,6 +4,7 @@ use mathlib.Core.Option.{Option, some, none}
 use Prim.Native.Nat.{ℕ, zero, suc, _+_}
 use Rattle.matching.specs.Pairs.{Pair, Points}
 use Rattle.matching.specs.Steps.{Rule, Step, apply, carry, undo, down}
+use Rattle.matching.specs.Shapes.{IsStep}
 use Rattle.matching.specs.Find.{stepAt, firstStep}
 
 -- 'The first step of a slip stands on the list's working graph, each later one on the graph that the step before it
@@ -15,6 +16,19 @@ replay n w (r ∷ rs) =
       | none ↦ none
       | some s ↦ elim (replay n (apply w s) rs) [ none ↦ none | some ss ↦ some (s ∷ ss) ]
     ]
+
+-- The same in the description's words: the steps that a slip names, each allowed where it stands. Law: proofs/Reduce,
+-- `replay-is`.
+abbrev pub AreSteps : ℕ → Points → List (Rule × ℕ) → List Step → Type 0
+AreSteps n w [] [] = Unit {0}
+AreSteps n w [] (s ∷ ss) = ⊥
+AreSteps n w (r ∷ rs) [] = ⊥
+AreSteps n w (r ∷ rs) (s ∷ ss) = IsStep n w (r .0) (r .1) s × AreSteps n (apply w s) rs ss
+
+-- What each step carries, in slip order. Law: proofs/Reduce, `carried-sum`.
+abbrev pub carries : Points → List Step → List ℕ
+carries w [] = []
+carries w (s ∷ ss) = carry w s ∷ carries (apply w s) ss
 
 -- The graph after the last step, and 'the sum of what the slip's steps carry, zero for the empty slip'.
 abbrev pub left : Points → List Step → Points

@@ -1,67 +1,81 @@
--- The worked lists, as rows of a table: a list, a slip or none for reduce's own, a pairing of the short list, and what
--- comes of them. Law: proofs/Worked.
+-- The worked lists, as rows of one table: what is done with a list, and what comes of it. Law: proofs/Worked.
+use mathlib.Core.Bool.{cond}
 use mathlib.Core.List.{List, [], _∷_, map}
 use mathlib.Core.Option.{Option, some, none}
 use Prim.Native.Nat.{ℕ}
 use Rattle.matching.specs.Pairs.{Pair}
-use Rattle.matching.specs.Listed.{Entry, listed, points, shortList, filed}
+use Rattle.matching.specs.Pairing.{isPairing}
+use Rattle.matching.specs.Listed.{Entry, joined, listed, points, shortList, filed}
 use Rattle.matching.specs.Steps.{Rule, by-leaf, by-ring, by-chain, Step, name}
-use Rattle.matching.specs.Slip.{replay, left, carried, lift, reduce}
+use Rattle.matching.specs.Slip.{replay, left, carried, carries, lift, reduce}
 
-pub record Case : Type 0 where
-  pub cells : ℕ
-  pub list : List Entry
-  pub slip : Option (List (Rule × ℕ))
-  pub pairing : List Pair
+-- A list of n cells, a slip or none for reduce's own, and a pairing of the short list to lift; or a pairing of the list
+-- to weigh.
+pub data Case : Type 0 where
+  lifting : (n : ℕ) (list : List Entry) (slip : Option (List (Rule × ℕ))) (pairing : List Pair) → Case
+  weighing : (list : List Entry) (pairing : List Pair) → Case
 
-pub record Outcome : Type 0 where
+pub record Lifted : Type 0 where
   pub slip : List (Rule × ℕ)
+  pub carries : List ℕ
   pub carried : ℕ
   pub short : List Entry
   pub lifted : List Pair
   pub points : ℕ
 
--- The steps of the slip, or those that reduce takes; none where a step is not allowed.
-abbrev pub stepsOf : Case → Option (List Step)
-stepsOf c =
-    elim (c .slip) [
-      | none ↦ some (reduce (c .cells) (c .cells) (listed (c .list)))
-      | some s ↦ replay (c .cells) (listed (c .list)) s
-    ]
+-- What is lifted, with what each step carries; the points weighed; or the number of the refusal.
+pub data Outcome : Type 0 where
+  made : Lifted → Outcome
+  weighed : ℕ → Outcome
+  refused : ℕ → Outcome
 
-abbrev pub outcomeOf : Case → List Step → Outcome
-outcomeOf c ss =
-    let w = listed (c .list) in
-    let m = filed (lift w ss (c .pairing)) in
+-- The steps of the slip, or those that reduce takes; none where a step is not allowed.
+abbrev pub stepsOf : ℕ → List Entry → Option (List (Rule × ℕ)) → Option (List Step)
+stepsOf n l none = some (reduce n n (listed l))
+stepsOf n l (some s) = replay n (listed l) s
+
+abbrev pub liftedBy : ℕ → List Entry → List Pair → List Step → Lifted
+liftedBy n l m ss =
+    let w = listed l in
+    let up = filed (lift w ss m) in
     record {
       slip = map name ss;
+      carries = carries w ss;
       carried = carried w ss;
-      short = shortList (c .cells) (left w ss);
-      lifted = m;
-      points = points (c .list) m;
+      short = shortList n (left w ss);
+      lifted = up;
+      points = points l up;
     }
 
-unfoldable pub outcome : Case → Option Outcome
-outcome c = elim (stepsOf c) [ none ↦ none | some ss ↦ some (outcomeOf c ss) ]
+-- Refusal 8 where a step is not allowed, 10 where the pairing is none of the graph left, or of the list's entries.
+unfoldable pub outcome : Case → Outcome
+outcome (lifting n l s m) =
+    elim (stepsOf n l s) [
+      | none ↦ refused 8
+      | some ss ↦ cond (isPairing (left (listed l) ss) m) (made (liftedBy n l m ss)) (refused 10)
+    ]
+outcome (weighing l m) = cond (isPairing (joined l) m) (weighed (points l m)) (refused 10)
 
 -- A row of the table.
 abbrev pub Row : Type 0
-Row = Case × Option Outcome
+Row = Case × Outcome
 
-abbrev pub reduced : ℕ → List Entry → List (Rule × ℕ) → ℕ → List Pair → ℕ → Row
-reduced n l s k m p = (
-  record { cells = n; list = l; slip = none; pairing = [] },
-  some (record { slip = s; carried = k; short = []; lifted = m; points = p }),
+-- Reduce's own slip: its steps, what each carries and what they carry together; nothing is left; the pairing lifted.
+abbrev pub reduced : ℕ → List Entry → List (Rule × ℕ) → List ℕ → ℕ → List Pair → ℕ → Row
+reduced n l s ks k m p = (
+  lifting n l none [],
+  made (record { slip = s; carries = ks; carried = k; short = []; lifted = m; points = p }),
 )
 
+-- A slip of one step and a pairing of the short list.
 abbrev pub lifted : ℕ → List Entry → List (Rule × ℕ) → List Pair → ℕ → List Entry → List Pair → ℕ → Row
 lifted n l s m k short up p = (
-  record { cells = n; list = l; slip = some s; pairing = m },
-  some (record { slip = s; carried = k; short = short; lifted = up; points = p }),
+  lifting n l (some s) m,
+  made (record { slip = s; carries = k ∷ []; carried = k; short = short; lifted = up; points = p }),
 )
 
-abbrev pub refused : ℕ → List Entry → List (Rule × ℕ) → Row
-refused n l s = (record { cells = n; list = l; slip = some s; pairing = [] }, none)
+abbrev pub not-allowed : ℕ → List Entry → List (Rule × ℕ) → Row
+not-allowed n l s = (lifting n l (some s) [], refused 8)
 
 -- The lists of the rows.
 abbrev pub path : ℕ → List Entry
@@ -82,27 +96,31 @@ chain1 = (by-chain, 1) ∷ []
 -- The worked lists, in their order; then more of the rules' words.
 unfoldable pub rows : List Row
 rows =
-    reduced 4 (path 10) ((by-leaf, 0) ∷ (by-leaf, 2) ∷ []) 20 ((0, 1) ∷ (2, 3) ∷ []) 20
+    reduced 4 (path 10) ((by-leaf, 0) ∷ (by-leaf, 2) ∷ []) (10 ∷ 10 ∷ []) 20 ((0, 1) ∷ (2, 3) ∷ []) 20
     ∷ lifted 4 (path 10) chain1 ((0, 3) ∷ []) 1 short3 ((0, 1) ∷ (2, 3) ∷ []) 20
     ∷ lifted 4 (path 10) chain1 ((0, 1) ∷ []) 1 short3 ((0, 1) ∷ []) 10
     ∷ lifted 4 (path 10) chain1 [] 1 short3 ((1, 2) ∷ []) 1
-    ∷ reduced 3 ((0, 1, 3) ∷ (1, 2, 8) ∷ []) ((by-leaf, 0) ∷ (by-leaf, 1) ∷ []) 8 ((1, 2) ∷ []) 8
-    ∷ reduced 3 ((0, 1, 5) ∷ (0, 2, 4) ∷ (1, 2, 3) ∷ []) ((by-ring, 1) ∷ (by-leaf, 0) ∷ []) 5 ((0, 1) ∷ []) 5
-    ∷ reduced 4 ((0, 1, 5) ∷ (0, 3, 5) ∷ (1, 2, 5) ∷ (2, 3, 5) ∷ []) ((by-ring, 1) ∷ (by-leaf, 0) ∷ []) 10
+    ∷ reduced 3 ((0, 1, 3) ∷ (1, 2, 8) ∷ []) ((by-leaf, 0) ∷ (by-leaf, 1) ∷ []) (3 ∷ 5 ∷ []) 8 ((1, 2) ∷ []) 8
+    ∷ reduced 3 ((0, 1, 5) ∷ (0, 2, 4) ∷ (1, 2, 3) ∷ []) ((by-ring, 1) ∷ (by-leaf, 0) ∷ []) (3 ∷ 2 ∷ []) 5
+    ((0, 1) ∷ []) 5
+    ∷ reduced 4 ((0, 1, 5) ∷ (0, 3, 5) ∷ (1, 2, 5) ∷ (2, 3, 5) ∷ []) ((by-ring, 1) ∷ (by-leaf, 0) ∷ [])
+    (5 ∷ 5 ∷ []) 10
     ((0, 3) ∷ (1, 2) ∷ []) 10
     ∷ lifted 6 (direct 25) chain1 ((0, 3) ∷ []) 1 (direct-short 25) ((0, 3) ∷ (1, 2) ∷ []) 26
     ∷ lifted 6 (direct 19) chain1 ((0, 3) ∷ []) 1 (direct-short 19) ((0, 1) ∷ (2, 3) ∷ []) 20
-    ∷ reduced 0 [] [] 0 [] 0
+    ∷ reduced 0 [] [] [] 0 [] 0
+    ∷ (lifting 2 ((0, 1, 0) ∷ []) (some []) ((0, 1) ∷ []), refused 10)
+    ∷ (weighing ((0, 1, 0) ∷ []) ((0, 1) ∷ []), weighed 0)
     -- the points of a chain's pair in full: 2,097,149
     ∷ lifted 4 (path 1048575) chain1 [] 1 ((0, 1, 1048574) ∷ (0, 3, 2097149) ∷ (1, 3, 1048574) ∷ []) ((1, 2) ∷ []) 1
     -- only the cell that the rule calls z: chain 2 is refused, and of the triangle only ring 1 is allowed
-    ∷ refused 4 (path 10) ((by-chain, 2) ∷ [])
-    ∷ refused 3 ((0, 1, 5) ∷ (0, 2, 4) ∷ (1, 2, 3) ∷ []) ((by-ring, 0) ∷ [])
+    ∷ not-allowed 4 (path 10) ((by-chain, 2) ∷ [])
+    ∷ not-allowed 3 ((0, 1, 5) ∷ (0, 2, 4) ∷ (1, 2, 3) ∷ []) ((by-ring, 0) ∷ [])
     -- a row whose two ends are one cell is no chain
-    ∷ refused 4 ((0, 1, 5) ∷ (0, 2, 4) ∷ (0, 3, 1) ∷ (1, 2, 3) ∷ []) ((by-chain, 1) ∷ [])
+    ∷ not-allowed 4 ((0, 1, 5) ∷ (0, 2, 4) ∷ (0, 3, 1) ∷ (1, 2, 3) ∷ []) ((by-chain, 1) ∷ [])
     -- the ring step at the lowest z, not at the lowest cell of a ring
     ∷ reduced 7 ((0, 5, 1) ∷ (0, 6, 1) ∷ (1, 2, 1) ∷ (1, 3, 1) ∷ (2, 3, 1) ∷ (5, 6, 1) ∷ [])
-    ((by-ring, 2) ∷ (by-ring, 5) ∷ []) 2 ((2, 3) ∷ (5, 6) ∷ []) 2
+    ((by-ring, 2) ∷ (by-ring, 5) ∷ []) (1 ∷ 1 ∷ []) 2 ((2, 3) ∷ (5, 6) ∷ []) 2
     -- pairs of a chain that come out zero
     ∷ lifted 4 ((0, 1, 1) ∷ (1, 2, 10) ∷ (2, 3, 1) ∷ []) chain1 [] 10 [] ((1, 2) ∷ []) 10
     ∷ lifted 4 ((0, 1, 2) ∷ (1, 2, 3) ∷ (2, 3, 5) ∷ []) chain1 [] 3 ((0, 3, 4) ∷ (1, 3, 2) ∷ []) ((1, 2) ∷ []) 3

@@ -9,10 +9,10 @@ use mathlib.Core.List.{List}
 use Prim.Native.Nat.{ℕ, _≤_, _<_}
 use native.Mathlib.Omega.{arith}
 use lib.ListN.{length, getD}
-use Rattle.matching.specs.Pairs.{Pair, sum, keep, same, like, held}
+use Rattle.matching.specs.Pairs.{Pair, sum, keep, same, like, held, without}
 use Rattle.matching.specs.Pairing.{Once}
 use Rattle.matching.proofs.Tests.{Test, pass, fail, ltT, holds}
-use Rattle.matching.proofs.Sums.{without, times-none, sum-apart, like-turned, keep-all, keep-and}
+use Rattle.matching.proofs.Sums.{times-none, sum-apart, like-turned, keep-all, keep-and}
 use Rattle.matching.proofs.Sums.{without-once, without-none}
 use Rattle.matching.proofs.Partner.{held-free}
 use Rattle.partners.specs.Back.{Mates}

@@ -11,10 +11,10 @@ use lib.Dec.{eqb}
 use lib.ListN.{length, getD, set, length-set}
 use lib.Seq.{getD-set-same, getD-set-other}
 use borrow.Author.Tests.{eq-eqb, ne-eqb}
-use Rattle.matching.specs.Pairs.{Pair, sum, hit, like, held, free}
+use Rattle.matching.specs.Pairs.{Pair, sum, hit, like, held, free, without}
 use Rattle.matching.specs.Pairing.{Once, mate, partner}
 use Rattle.matching.proofs.Tests.{Test, pass, fail, eqT, ltT}
-use Rattle.matching.proofs.Sums.{without, times-none, sum-apart, ι-is, hit-some, like-hit}
+use Rattle.matching.proofs.Sums.{times-none, sum-apart, ι-is, hit-some, like-hit}
 use Rattle.matching.proofs.Partner.{mate-left, mate-turned, partner-none, partner-view, held-sum, held-free, partner-of}
 use Rattle.partners.specs.Back.{Mates}
 use Rattle.partners.specs.Table.{TrailKept}

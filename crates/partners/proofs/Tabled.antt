@@ -14,7 +14,7 @@ use lib.ListN.{length, getD, set, take, length-append}
 use lib.Seq.{take-suc-set}
 use borrow.Author.Tests.{lt-ltb, le-ltb}
 use Rattle.matching.specs.Lists.{All}
-use Rattle.matching.specs.Pairs.{Pair, Points, sum, Each, hit, like}
+use Rattle.matching.specs.Pairs.{Pair, Points, sum, Each, hit, like, without}
 use Rattle.matching.specs.Pairing.{Once, partner, cells}
 use Rattle.matching.specs.Listed.{filed}
 use Rattle.matching.proofs.Tests.{Test, pass, fail, eqT, ltT, passes}
@@ -24,7 +24,7 @@ use Rattle.matching.proofs.Pairing.{hit-cells}
 use Rattle.matching.proofs.Alls.{all-mem}
 use Rattle.matching.proofs.Upto.{sumTo, sumTo-at, distinct-length}
 use Rattle.matching.proofs.Sums.{sum-append, sum-none, each-map, each-append, zero-like, like-self, like-flip}
-use Rattle.matching.proofs.Sums.{like-same, like-turned, like-once, like-hit, without}
+use Rattle.matching.proofs.Sums.{like-same, like-turned, like-once, like-hit}
 use Rattle.matching.proofs.Filed.{InOrder, SamePairs, filed-sum, filed-in-order, in-order-same}
 use Rattle.matching.proofs.Partner.{partner-none, partner-view, partner-of, held-sum, held-free}
 use Rattle.cellfile.specs.Fields.{packed}

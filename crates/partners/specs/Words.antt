@@ -1,18 +1,15 @@
 -- A pairing as words of its file.
 use mathlib.Core.Path.{_≡_}
 use mathlib.Core.Logic.{_≢_}
-use mathlib.Core.List.{List, [], _∷_, map}
+use mathlib.Core.List.{List, map}
 use Prim.Native.Nat.{ℕ, _≤_, _<_}
 use lib.ListN.{length, take}
 use Rattle.matching.specs.Pairs.{Pair, Each}
 use Rattle.matching.specs.Pairing.{Once}
 use Rattle.cellfile.specs.Fields.{packed}
-use Rattle.cellfile.specs.Files.{pairing as pairingLayout}
+use Rattle.cellfile.specs.Files.{pairing as pairingLayout, pairFields}
 
--- The fields of a pair in a pairing's file, and the word that they are.
-abbrev pub pairFields : Pair → List ℕ
-pairFields e = e .0 ∷ e .1 ∷ 0 ∷ []
-
+-- A pair as a word of a pairing's file.
 abbrev pub pairWord : Pair → ℕ
 pairWord e = packed (pairingLayout .entry) (pairFields e)
 

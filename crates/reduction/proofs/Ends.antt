@@ -21,7 +21,8 @@ use Rattle.cellfile.proofs.Fields.{fields-packed}
 use Rattle.cellfile.proofs.RoundTrip.{length-file}
 use Rattle.cellfile.proofs.Walk.{part}
 use Rattle.slots.specs.Slots.{graphOf}
-use Rattle.reduction.specs.Pairs.{asFields, pairWord}
+use Rattle.cellfile.specs.Files.{asFields}
+use Rattle.reduction.specs.Pairs.{pairWord}
 use Rattle.reduction.specs.Calls.{numberOf, nameFields}
 use Rattle.reduction.specs.Running.{nameWord}
 use Rattle.reduction.specs.Writing.{LeftThere, leftFile, takenFile, Does}

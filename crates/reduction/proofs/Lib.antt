@@ -11,3 +11,4 @@ pub mod Ends
 pub mod Starts
 pub mod Replaying
 pub mod Reducing
+pub mod Claims

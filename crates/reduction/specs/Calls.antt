@@ -13,7 +13,7 @@ use Rattle.cellfile.specs.Files.{writeFile, onto}
 use Rattle.cellfile.specs.Refusals.{Row, first, fewWords, listRows, badSlip, disallowed, shortOutput}
 use Rattle.cellfile.specs.Answers.{Answer, answer}
 use Rattle.steps.specs.Finding.{ruleOf}
-use Rattle.reduction.specs.Pairs.{asFields}
+use Rattle.cellfile.specs.Files.{asFields}
 use Rattle.reduction.specs.declared.Replayed.{Replayed}
 use Rattle.reduction.specs.declared.Replayed.the-variants as replays
 use Rattle.reduction.specs.declared.Reduced.{Reduced}

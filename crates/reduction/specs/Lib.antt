@@ -6,3 +6,4 @@ pub mod Pairs
 pub mod Loads
 pub mod Writing
 pub mod Starting
+pub mod Claims

@@ -1,17 +1,14 @@
 -- The pairs left in the slots, and as words of the short list. Inner contracts cite this.
 use mathlib.Core.Path.{_≡_}
-use mathlib.Core.List.{List, [], _∷_}
+use mathlib.Core.List.{List}
 use Prim.Native.Nat.{ℕ, _≤_, _<_}
 use lib.ListN.{length, getD}
 use Rattle.matching.specs.Listed.{Entry}
 use Rattle.cellfile.specs.Fields.{packed}
-use Rattle.cellfile.specs.Files.{shortList}
+use Rattle.cellfile.specs.Files.{shortList, asFields}
 use Rattle.slots.specs.Slots.{graphOf, lowOf, highOf}
 
--- The fields of a short list's entry, and their number.
-abbrev pub asFields : Entry → List ℕ
-asFields e = e .0 ∷ e .1 ∷ e .2 ∷ []
-
+-- An entry of the short list as a word.
 abbrev pub pairWord : Entry → ℕ
 pairWord e = packed (shortList .entry) (asFields e)
 

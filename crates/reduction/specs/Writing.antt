@@ -14,7 +14,8 @@ use Rattle.cellfile.specs.Refusals.{Row, first, listRows, badSlip, disallowed, 
 use Rattle.cellfile.specs.Answers.{Answer, answer}
 use Rattle.cellfile.specs.Loops.{fileOf}
 use Rattle.slots.specs.Slots.{Holds, graphOf}
-use Rattle.reduction.specs.Pairs.{asFields, Pairs}
+use Rattle.cellfile.specs.Files.{asFields}
+use Rattle.reduction.specs.Pairs.{Pairs}
 use Rattle.reduction.specs.Calls.{graphIn, stand, written}
 
 -- ---- what is asked

@@ -34,15 +34,15 @@ use Rattle.cellfile.proofs.Merge.{OrderedPairs}
 use Rattle.cellfile.proofs.RoundTrip.{length-file, accepted-entries}
 use Rattle.cellfile.proofs.Rows.{list-none, too-large-none, wrong-length-none}
 use Rattle.reduction.specs.Calls.{graphIn, slipFile, shortFile, nameFields, reduceSteps}
-use Rattle.reduction.specs.Pairs.{asFields}
+use Rattle.cellfile.specs.Files.{asFields}
 use Rattle.reduction.proofs.Reducing.{reduce-allowed}
 use Rattle.reduction.proofs.Loading.{list-accepted}
 use Rattle.reduction.proofs.Courses.{list-graph, list-few, left-small, steps-few}
 use Rattle.matching.proofs.Demand.{short-fewer}
-use Rattle.partners.specs.Words.{pairFields}
+use Rattle.cellfile.specs.Files.{pairFields}
 use Rattle.partners.proofs.Tabled.{pairing-half}
 use Rattle.lifting.specs.Calls.{graphAfter, solution, pairingFile}
-use Rattle.lifting.proofs.Claim.{best-left, pairing-read, demand-pair}
+use Rattle.lifting.proofs.PairClaim.{best-left, pairing-read, demand-pair}
 use Rattle.report.specs.Printed.{withPoints}
 use Rattle.report.specs.Writing.{found}
 use Rattle.report.proofs.Found.{found-is}

@@ -1,0 +1,2 @@
+-- The laws of the sceptic's question.
+pub mod Telling

@@ -1,0 +1,61 @@
+// For a sceptic: replay, lift and weigh on one list, slip and pairing, and what demand 3 says of what they answer and
+// write. See specs/Asking.
+use cellfile::Weighed;
+use lifting::Paired;
+use reduction::Replayed;
+ghost use mathlib.Core.Path.{_≡_};
+ghost use lib.ListN.{length};
+ghost use Rattle.cellfile.specs.Files.{lent, Cleared};
+ghost use Rattle.reduction.specs.Calls.{written, replaying, replayShort};
+ghost use Rattle.lifting.specs.Calls.{liftFile};
+ghost use Rattle.sceptic.specs.Asking.{asked, lifts, asking, Told};
+
+// The refusal of the first call that refuses, or the lengths that replay and lift answer and the points that weigh does.
+pub enum Asked {
+    Refused(u32),
+    Answered {
+        short: usize,
+        lifted: usize,
+        points: u64,
+    },
+}
+
+// Replays the slip, lifts the pairing and weighs what is lifted. Every word of the work buffers is zero afterwards.
+pub fn ask(
+    list: &[u8],
+    slip: &[u8],
+    pairing: &[u8],
+    work_a: &mut [u64],
+    work_b: &mut [u64],
+    short: &mut [u8],
+    lifted: &mut [u8],
+) -> Asked
+    ensures answer { λ r. ⌜ asked r ≡ asking (now (list .entry)) (now (slip .entry)) (now (pairing .entry))
+        (lent (now («work_a» .entry)) (now («work_b» .entry))) (length (now (short .entry)))
+        (length (now (lifted .entry))) ⌝ }
+    ensures outputs { λ _. ⌜ (now (short .exit) ≡ written (replaying (now (list .entry)) (now (slip .entry))
+        (lent (now («work_a» .entry)) (now («work_b» .entry))) (length (now (short .entry))) .0)
+        (replayShort (now (list .entry)) (now (slip .entry))) (now (short .entry)))
+        × (now (lifted .exit) ≡ written (lifts (now (list .entry)) (now (slip .entry)) (now (pairing .entry))
+        (lent (now («work_a» .entry)) (now («work_b» .entry))) (length (now (short .entry)))
+        (length (now (lifted .entry))) .0)
+        (liftFile (now (list .entry)) (now (slip .entry)) (now (pairing .entry))) (now (lifted .entry))) ⌝ }
+    ensures demand { λ r. ⌜ Told (now (list .entry)) (now (pairing .entry)) (now (short .exit)) (now (lifted .exit)) r ⌝ }
+    ensures cleared { λ _. ⌜ Cleared (now («work_a» .entry)) (now («work_a» .exit))
+        × Cleared (now («work_b» .entry)) (now («work_b» .exit)) ⌝ }
+{
+    match reduction::replay(list, slip, work_a, work_b, short) {
+        Replayed::Refused(k) => Asked::Refused(k),
+        Replayed::Length(i) => match lifting::lift(list, slip, pairing, work_a, work_b, lifted) {
+            Paired::Refused(k) => Asked::Refused(k),
+            Paired::Length(j) => match cellfile::weigh(list, &lifted[..j], work_a, work_b) {
+                Weighed::Refused(k) => Asked::Refused(k),
+                Weighed::Points(p) => Asked::Answered {
+                    short: i,
+                    lifted: j,
+                    points: p,
+                },
+            },
+        },
+    }
+}
