@@ -1,9 +1,11 @@
 -- A call checks its inputs one after the other, each by a function that answers the first of that input's rows. These
 -- laws put the answers together: what is refused by some rows is refused by them and any rows after them, and where
 -- they refuse nothing the rows after them decide. At the end: the answer to a whole call's rows is 0 and the values just
--- where none of them holds (`call-passes`, `call-sound`).
+-- where none of them holds (`call-passes`, `call-sound`), and a refusal's number just where its row is the first that holds
+-- (`call-refused`).
 use Prim.Native.Nat.{ℕ, zero, suc, _<_}
 use mathlib.Core.Path.{_≡_, refl, sym, ap, _∙_}
+use mathlib.Core.Logic.{_≢_, _↔_}
 use mathlib.Core.Bool.{Bool, true, false, cond}
 use mathlib.Core.List.{List, [], _∷_, _++_}
 use native.Mathlib.Omega.{arith}
@@ -68,6 +70,46 @@ rows-apart : (rows more : List Row) → All (λ (r : Row). r .1 ≡ false) (rows
 rows-apart [] more h = (refl, h)
 rows-apart (r ∷ rows) more h = let a = rows-apart rows more (h .1) in (rw (h .0) (a .0), a .1)
 
+-- the first row that holds has the number k, which no other row has
+never : (rows : List Row) (k : ℕ) → 0 < k → All (λ (r : Row). r .0 ≢ k) rows → first rows ≢ k
+never [] k h p = λ e. omega arith
+never (r ∷ rows) k h p = go (r .1) (never rows k h (p .1))
+  where
+    go : (t : Bool) → first rows ≢ k → cond t (r .0) (first rows) ≢ k
+    go true i = p .0
+    go false i = i
+
+first-at : (rows more : List Row) (k : ℕ) (t : Bool) → 0 < k → All (λ (r : Row). r .0 ≢ k) rows
+    → All (λ (r : Row). r .0 ≢ k) more → first (rows ++ (k, t) ∷ more) ≡ k
+    → All (λ (r : Row). r .1 ≡ false) rows × (t ≡ true)
+first-at [] more k t h p q e = (tt, go t e)
+  where
+    go : (t : Bool) → cond t k (first more) ≡ k → t ≡ true
+    go true d = refl
+    go false d = absurd (never more k h q d)
+first-at (r ∷ rows) more k t h p q e = go (r .1) e (first-at rows more k t h (p .1) q)
+  where
+    go : (s : Bool) → cond s (r .0) (first (rows ++ (k, t) ∷ more)) ≡ k
+        → (first (rows ++ (k, t) ∷ more) ≡ k → All (λ (r : Row). r .1 ≡ false) rows × (t ≡ true))
+        → ((s ≡ false) × All (λ (r : Row). r .1 ≡ false) rows) × (t ≡ true)
+    go true d i = absurd (p .0 d)
+    go false d i = let a = i d in ((refl, a .0), a .1)
+
+first-here : (rows more : List Row) (k : ℕ) (t : Bool) → All (λ (r : Row). r .1 ≡ false) rows → t ≡ true
+    → first (rows ++ (k, t) ∷ more) ≡ k
+first-here rows more k t p e = first-passed rows ((k, t) ∷ more) p ∙ ap (λ (s : Bool). cond s k (first more)) e
+
+answer-number : (n k : ℕ) (vs : List ℕ) → 0 < k → (answer n vs ≡ (k, [])) ↔ (n ≡ k)
+answer-number n k vs h = (λ e. number n e, λ e. ap (λ j. answer j vs) e ∙ refused k h)
+  where
+    number : (n : ℕ) → answer n vs ≡ (k, []) → n ≡ k
+    number zero e = ap (λ (a : Answer). a .0) e
+    number (suc n) e = ap (λ (a : Answer). a .0) e
+
+    refused : (k : ℕ) → 0 < k → answer k vs ≡ (k, [])
+    refused zero h = absurd (omega arith)
+    refused (suc k) h = refl
+
 module _ (list lent : List ℕ) (more : List Row) where
   abbrev pub callRows : List Row
   callRows = (1, fewWords lent) ∷ (listRows storeList list ++ more)
@@ -92,3 +134,38 @@ module _ (list lent : List ℕ) (more : List Row) where
       (a .0) in
       let c = rows-apart (listRows storeList list) more (b .1) in
       (b .0, c .0, c .1, a .1)
+
+-- a number above 6 is answered just where its row is the first that holds
+pub call-refused : (list lent : List ℕ) (rows more : List Row) (k : ℕ) (t : Bool) (values : List ℕ) → 6 < k
+    → All (λ (r : Row). r .0 ≢ k) rows → All (λ (r : Row). r .0 ≢ k) more
+    → (answer (first (callRows list lent (rows ++ (k, t) ∷ more))) values ≡ (k, []))
+    ↔ ((fewWords lent ≡ false) × (first (listRows storeList list) ≡ 0) × All (λ (r : Row). r .1 ≡ false) rows
+    × (t ≡ true))
+call-refused list lent rows more k t values h p q = (to, from)
+  where
+    before : List Row
+    before = (1, fewWords lent) ∷ (listRows storeList list ++ rows)
+
+    number : (answer (first (before ++ (k, t) ∷ more)) values ≡ (k, [])) ↔ (first (before ++ (k, t) ∷ more) ≡ k)
+    number = answer-number (first (before ++ (k, t) ∷ more)) k values (omega arith)
+
+    Says : Type 0
+    Says =
+        (fewWords lent ≡ false) × (first (listRows storeList list) ≡ 0) × All (λ (r : Row). r .1 ≡ false) rows
+        × (t ≡ true)
+
+    to : answer (first (before ++ (k, t) ∷ more)) values ≡ (k, []) → Says
+    to e =
+        let a =
+        first-at before more k t (omega arith)
+        ((λ e. omega arith), ((λ e. omega arith), ((λ e. omega arith), ((λ e. omega arith), ((λ e. omega arith), ((λ e. omega arith), p))))))
+        q (number .0 e) in
+        let b = rows-apart (listRows storeList list) rows (a .0 .1) in
+        (a .0 .0, b .0, b .1, a .1)
+
+    from : Says → answer (first (before ++ (k, t) ∷ more)) values ≡ (k, [])
+    from s =
+        number .1 (first-here before more k t (
+          s .0,
+          all-append (λ (r : Row). r .1 ≡ false) (listRows storeList list) rows (list-none storeList list (s .1)) (s .2),
+        ) (s .3))

@@ -1,6 +1,6 @@
 -- What is written is not refused. In order: the header of a file that fits is read again (`header-read`), and the entries
 -- (`entries-read`); where nothing stands between the header and the entries, refusals 7 and 9 find no fault in the header
--- (`headed`); a well-formed list passes 2 to 6 (`list-passes`) and is read as its entries (`list-written`); a slip of
+-- (`headed`); a well-formed list passes 2 to 6 (`list-passes`) and is read again (`list-cells`, `list-written`); a slip of
 -- steps that have a rule passes 7 (`slip-passes`), and its steps are read again (`steps-read`); pairs of n cells in file
 -- order, as a pairing, pass 9 (`pairing-passes`) and are read again (`pairs-read`). Assumes nothing.
 use Prim.Native.Nat.{ℕ, suc, _+_, _*_, _≤_, _<_}
@@ -127,8 +127,8 @@ module _ (n : ℕ) (es : List Entry) (le : n ≤ 1024) (few : length es ≤ 4096
   pub list-written : entriesOf storeList (writeFile storeList said) ≡ es
   list-written = entries-written storeList n [] es list-fits
 
-  cells : cellsOf s ≡ n
-  cells = cells-read storeList said list-fits
+  pub list-cells : cellsOf (writeFile storeList said) ≡ n
+  list-cells = cells-read storeList said list-fits
 
   two : notAList storeList s ≡ false
   unfolding notAList
@@ -143,7 +143,7 @@ module _ (n : ℕ) (es : List Entry) (le : n ≤ 1024) (few : length es ≤ 4096
   unfolding tooLarge
   three =
       rw (
-        le-ltb 1024 (cellsOf s) (omega (arith, cells, le)),
+        le-ltb 1024 (cellsOf s) (omega (arith, list-cells, le)),
         le-ltb 4096 (countOf s) (omega (arith, count-read storeList said list-fits, length-map es asFields, few)),
       )
 
@@ -156,7 +156,7 @@ module _ (n : ℕ) (es : List Entry) (le : n ≤ 1024) (few : length es ≤ 4096
   five : strayEntry storeList s ≡ false
   unfolding strayEntry
   five =
-      ap (λ (c : ℕ). any (λ (e : Entry). strayPair c (e .0) (e .1)) (entriesOf storeList s)) cells
+      ap (λ (c : ℕ). any (λ (e : Entry). strayPair c (e .0) (e .1)) (entriesOf storeList s)) list-cells
       ∙ ap (any (λ (e : Entry). strayPair n (e .0) (e .1))) list-written
       ∙ none-stray n es h
 

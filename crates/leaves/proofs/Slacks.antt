@@ -5,7 +5,7 @@ use mathlib.Core.Path.{_≡_, refl, sym, ap, _∙_}
 use mathlib.Core.Logic.{inl, inr}
 use mathlib.Core.Bool.{true}
 use mathlib.Core.List.{List, [], _∷_}
-use Prim.Native.Nat.{ℕ, suc, _+_, _-_, _≤_, _<_}
+use Prim.Native.Nat.{ℕ, suc, _+_, _-_, _≤_, _<_, min}
 use native.Mathlib.Omega.{arith}
 use lib.ListN.{getD}
 use Rattle.matching.specs.Pairs.{touches}
@@ -60,9 +60,9 @@ module _ {e : ℕ} {w1 w2 : List ℕ} (h : Holds e w1 w2) {u : ℕ} where
   }
 
   pub slacks-on : {least most k : ℕ} → Slacks e w1 u least most (suc k)
-      → {q least′ : ℕ} → Kept e w1 u k q → (least′ ≤ least) × (least′ ≤ q) → {i : ℕ} → LastSlot w1 u k i
+      → {q least′ : ℕ} → Kept e w1 u k q → least′ ≡ min least q → {i : ℕ} → LastSlot w1 u k i
       → {most′ : ℕ} → (y : ℕ) × (most′ ≤ graphOf e w1 u y) → Slacks e w1 u least′ most′ i
-  slacks-on {least} {most} {k} s {q} {least′} here (a, b) {i} l y = record {
+  slacks-on {least} {most} {k} s {q} {least′} here a {i} l y = record {
     top = omega (arith, l .low, s .top);
     has = l .at;
     bound = omega (arith, s .bound);
@@ -71,8 +71,8 @@ module _ {e : ℕ} {w1 w2 : List ℕ} (h : Holds e w1 w2) {u : ℕ} where
     stays = y;
   }
 
-  pub slacks-end : {least most r : ℕ} → Slacks e w1 u least most 0 → (r ≤ least) × (r ≤ most) → Slack (graphOf e w1) u r
-  slacks-end {least} {most} {r} s (a, b) = record {
+  pub slacks-end : {least most r : ℕ} → Slacks e w1 u least most 0 → r ≡ min least most → Slack (graphOf e w1) u r
+  slacks-end {least} {most} {r} s a = record {
     top = omega (arith, s .bound);
     others = λ x p d. (let j = joins-some e w1 u x p in
         omega (arith, s .past (j .0) (omega arith) x (j .1) d, joins-points h (j .1)));

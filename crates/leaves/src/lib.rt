@@ -8,7 +8,7 @@ use slots::read;
 use steps::applying;
 ghost use mathlib.Core.Path.{_≡_};
 ghost use mathlib.Core.Bool.{true};
-ghost use Prim.Native.Nat.{_+_, _<_, _≤_};
+ghost use Prim.Native.Nat.{_+_, _<_, _≤_, min};
 ghost use lib.ListN.{length, set};
 ghost use Rattle.matching.specs.Pairs.{touches};
 ghost use Rattle.matching.specs.Graph.{Graph};
@@ -21,7 +21,7 @@ ghost use Rattle.leaves.specs.Runs.{FirstLeaf, Kept, Slack, Due, RunTher
 const ABOVE_ALL: u64 = 17592186044416;
 
 fn smaller(a: u64, b: u64) -> u64
-    ensures { λ r. ⌜ (r ≤ a) × (r ≤ b) ⌝ }
+    ensures { λ r. ⌜ r ≡ min a b ⌝ }
 {
     if a < b {
         return a;

@@ -1,25 +1,41 @@
--- A pairing of a graph of n cells as a file: it is read as itself in file order (`file-read`), passes refusal 9
--- (`file-formed`), and 10 for that graph (`file-there`); it has at most 1,540 bytes (`file-longest`). Assumes nothing.
-use mathlib.Core.Path.{_≡_, ap, _∙_}
-use mathlib.Core.Bool.{not, false}
+-- Pairings as files. In order: a pairing of a graph of n cells is read as itself in file order (`file-in-order`,
+-- `file-read`, `file-pairing`), passes refusal 9 (`file-formed`), and has at most 1,540 bytes (`file-longest`); what is lifted by steps
+-- that are allowed is a pairing of the store (`lifted-pairing`), and heaviest where it was (`heaviest-lifted`); what pair
+-- writes (`best-left`, `pairing-read`). Assumes nothing.
+use mathlib.Core.Path.{_≡_, sym, subst}
+use mathlib.Core.Bool.{false}
 use mathlib.Core.List.{List, [], _∷_, map}
+use mathlib.Core.Option.{some}
 use Prim.Native.Nat.{ℕ, _≤_, _<_}
 use native.Mathlib.Omega.{arith}
 use lib.ListN.{length, length-map}
 use Rattle.matching.specs.Pairs.{Pair, Points, Each}
-use Rattle.matching.specs.Pairing.{Pairing, isPairing}
-use Rattle.matching.specs.Listed.{filed}
+use Rattle.matching.specs.Pairing.{Pairing, Heaviest}
+use Rattle.matching.specs.Listed.{Entry, joined, listed, filed}
 use Rattle.matching.specs.Graph.{Graph}
+use Rattle.matching.specs.Steps.{Rule, Step, name}
+use Rattle.matching.specs.Slip.{replay, left, lift, bring}
 use Rattle.matching.proofs.Sums.{each-map}
 use Rattle.matching.proofs.Put.{pair-below, pair-apart}
-use Rattle.matching.proofs.Pairing.{pairing-is}
+use Rattle.matching.proofs.Pairing.{present}
 use Rattle.matching.proofs.Filed.{InOrder, filed-pairing, filed-in-order}
-use Rattle.cellfile.specs.Files.{pairing as pairingLayout, pairsOf, pairFields}
-use Rattle.cellfile.specs.Refusals.{badPairing, noPairing}
+use Rattle.matching.proofs.Entries.{joined-graph, list-pairing, list-trimmed}
+use Rattle.matching.proofs.Fits.{Stands}
+use Rattle.matching.proofs.Reduce.{replay-fits}
+use Rattle.matching.proofs.Demand.{slip-lifted, slip-brought, no-gain-no-loss}
+use Rattle.cellfile.specs.Files.{storeList, pairing as pairingLayout, cellsOf, entriesOf, pairsOf, pairFields}
+use Rattle.cellfile.specs.Refusals.{first, listRows, badPairing}
 use Rattle.cellfile.proofs.RoundTrip.{length-file}
 use Rattle.cellfile.proofs.Written.{pairs-read, pairing-passes}
+use Rattle.reduction.specs.Calls.{graphIn, reduceSteps}
+use Rattle.reduction.proofs.Loading.{list-accepted}
+use Rattle.reduction.proofs.Courses.{list-graph, left-graph}
+use Rattle.reduction.proofs.Reducing.{reduce-allowed}
 use Rattle.partners.proofs.Tabled.{pairing-half}
-use Rattle.lifting.specs.Calls.{pairFile}
+use Rattle.lifting.specs.Calls.{pairFile, liftedFile, graphAfter, pairingFile, solution}
+use Rattle.lifting.proofs.Solution.{solution-heaviest}
+
+-- ---- a pairing of a graph, as a file
 
 module _ {n : ℕ} {w : Points} (le : n ≤ 1024) (g : Graph n w) where
   ordered-below : (m : List Pair) → InOrder m → Each (λ a b. 0 < w a b) m → Each (λ a b. (a < b) × (b < n)) m
@@ -30,14 +46,14 @@ module _ {n : ℕ} {w : Points} (le : n ≤ 1024) (g : Graph n w) where
     kept : Pairing w (filed m)
     kept = filed-pairing w (g .turned) m p
 
-    in-order : InOrder (filed m)
-    in-order = filed-in-order m (each-map (pair-apart g) m (p .held)) (p .once)
+    pub file-in-order : InOrder (filed m)
+    file-in-order = filed-in-order m (each-map (pair-apart g) m (p .held)) (p .once)
 
     below : Each (λ a b. (a < b) × (b < n)) (filed m)
-    below = ordered-below (filed m) in-order (kept .held)
+    below = ordered-below (filed m) file-in-order (kept .held)
 
-    half : length (filed m) ≤ 512
-    half =
+    pub file-half : length (filed m) ≤ 512
+    file-half =
         omega (
           arith,
           pairing-half n (filed m)
@@ -46,16 +62,16 @@ module _ {n : ℕ} {w : Points} (le : n ≤ 1024) (g : Graph n w) where
         )
 
     few : length (filed m) < 8192
-    few = omega (arith, half)
+    few = omega (arith, file-half)
 
     pub file-read : pairsOf (pairFile n m) ≡ filed m
     file-read = pairs-read n (filed m) le few below
 
-    pub file-formed : badPairing n (pairFile n m) ≡ false
-    file-formed = pairing-passes n (filed m) le few below in-order
+    pub file-pairing : Pairing w (pairsOf (pairFile n m))
+    file-pairing = subst (Pairing w) (sym file-read) kept
 
-    pub file-there : noPairing w (pairsOf (pairFile n m)) ≡ false
-    file-there = ap (λ (k : List Pair). not (isPairing w k)) file-read ∙ ap not (pairing-is w (filed m) kept)
+    pub file-formed : badPairing n (pairFile n m) ≡ false
+    file-formed = pairing-passes n (filed m) le few below file-in-order
 
     pub file-longest : length (pairFile n m) ≤ 1540
     file-longest =
@@ -63,5 +79,59 @@ module _ {n : ℕ} {w : Points} (le : n ≤ 1024) (g : Graph n w) where
           arith,
           length-file pairingLayout (record { cells = n; extra = []; entries = map pairFields (filed m) }),
           length-map (filed m) pairFields,
-          half,
+          file-half,
         )
+
+-- ---- what is lifted by steps that are allowed
+
+module _ (list : List ℕ) (h : first (listRows storeList list) ≡ 0) where
+  abbrev n : ℕ
+  n = cellsOf list
+
+  abbrev store : List Entry
+  store = entriesOf storeList list
+
+  -- the graph of all entries
+  pub all-entries : Graph n (joined store)
+  all-entries = joined-graph n store (list-accepted list h .1)
+
+  module _ (rs : List (Rule × ℕ)) (ss : List Step) (allowed : replay n (graphIn list) rs ≡ some ss) where
+    stands : Stands (graphIn list) ss
+    stands = replay-fits (list-graph list h) rs ss allowed .0
+
+    pub lifted-pairing : (m : List Pair) → Pairing (left (graphIn list) ss) m
+        → Pairing (joined store) (lift (graphIn list) ss m)
+    lifted-pairing m p =
+        list-pairing store (lift (graphIn list) ss m) (slip-lifted (list-graph list h) ss stands m p .0)
+
+    pub heaviest-lifted : (m : List Pair) → Heaviest (left (graphIn list) ss) (left (graphIn list) ss) m
+        → Heaviest (joined store) (listed store) (filed (lift (graphIn list) ss m))
+    heaviest-lifted m q =
+        let x = no-gain-no-loss n store (list-accepted list h .1) rs ss allowed .exact m (q .pairing) in
+        record {
+          pairing = x .0;
+          most = λ k p. (
+              let t = list-trimmed store k p in
+              let d = slip-brought (list-graph list h) ss stands (present (graphIn list) k) (t .0) in
+              omega (arith, x .1, t .1, d .1, q .most (bring (graphIn list) ss (present (graphIn list) k)) (d .0))
+              );
+        }
+
+  -- ---- what pair writes
+
+  -- the solution of what reduce leaves is heaviest there
+  abbrev pub it : List Pair
+  it = solution n (graphAfter list (reduceSteps list))
+
+  pub best-left : Heaviest (graphAfter list (reduceSteps list)) (graphAfter list (reduceSteps list)) it
+  best-left =
+      solution-heaviest n (graphAfter list (reduceSteps list))
+      (left-graph list h (map name (reduceSteps list)) (reduceSteps list) (reduce-allowed list h))
+
+  pub pairing-pairing : Pairing (joined store) (lift (graphIn list) (reduceSteps list) it)
+  pairing-pairing =
+      lifted-pairing (map name (reduceSteps list)) (reduceSteps list) (reduce-allowed list h) it (best-left .pairing)
+
+  pub pairing-read : pairsOf (pairingFile list) ≡ filed (lift (graphIn list) (reduceSteps list) it)
+  pairing-read =
+      file-read (list-accepted list h .0) all-entries (lift (graphIn list) (reduceSteps list) it) pairing-pairing

@@ -6,4 +6,3 @@ pub mod Ending
 pub mod Tail
 pub mod Solving
 pub mod Lifting
-pub mod Demand

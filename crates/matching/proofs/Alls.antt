@@ -44,6 +44,10 @@ all-at P [] x p h = absurd h
 all-at P (y ∷ ys) x p (inl e) = rw e (p .0)
 all-at P (y ∷ ys) x p (inr h) = all-at P ys x (p .1) h
 
+pub all-has : {A : Type 0} (xs : List A) → All (Has xs) xs
+all-has [] = tt
+all-has (x ∷ xs) = (inl refl, all-map (λ y h. inr h) xs (all-has xs))
+
 pub has-left : {A : Type 0} (xs ys : List A) (x : A) → Has xs x → Has (xs ++ ys) x
 has-left [] ys x h = absurd h
 has-left (y ∷ xs) ys x (inl e) = inl e

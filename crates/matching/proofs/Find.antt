@@ -15,7 +15,7 @@ use Rattle.matching.specs.Lists.{mem}
 use Rattle.matching.specs.Pairs.{Points}
 use Rattle.matching.specs.Graph.{Graph, partners, degree}
 use Rattle.matching.specs.Steps.{Rule, by-leaf, by-ring, by-chain, Step, leaf, ring, chain, name}
-use Rattle.matching.specs.Shapes.{IsRow, Lowest, IsLeaf, IsRing, IsChain, IsStep, first, last}
+use Rattle.matching.specs.Shapes.{IsRow, Lowest, IsLeaf, IsRing, IsChain, IsStep, first, last, rank, NoLater}
 use Rattle.matching.specs.Find.{Row, row, lowest, isLowest, two, provided, leafOf, ringOf, chainOf}
 use Rattle.matching.specs.Find.{orElse, search, stepAt, firstStep}
 use Rattle.matching.proofs.Tests.{Test, pass, fail, isT, eqT, ltT, notT, andT, mapT, fails}
@@ -122,15 +122,6 @@ ways-some n at s h =
     let j = search-some _ n s (i .2) in
     (i .0, j .0, j .2)
 
--- The order in which rules and cells are tried: leaf, ring, chain; for one rule by the cell.
-abbrev pub rank : Rule → ℕ
-rank by-leaf = 0
-rank by-ring = 1
-rank by-chain = 2
-
-abbrev pub Tried : Rule × ℕ → Rule × ℕ → Type 0
-Tried x y = (rank (x .0) < rank (y .0)) ⊎ ((x .0 ≡ y .0) × (x .1 ≤ y .1))
-
 -- What the search of one rule's steps tells, and what the search of all of them tells.
 abbrev Sought : ℕ → Points → Rule → Option Step → Type 0
 Sought n w r none = (c : ℕ) (t : Step) → IsStep n w r c t → ⊥
@@ -142,7 +133,7 @@ abbrev First : ℕ → Points → Option Step → Type 0
 First n w none = (r : Rule) (c : ℕ) (t : Step) → IsStep n w r c t → ⊥
 First n w (some s) =
     (stepAt n w (name s .0) (name s .1) ≡ some s)
-    × ((r : Rule) (c : ℕ) (t : Step) → IsStep n w r c t → Tried (name s) (r, c))
+    × ((r : Rule) (c : ℕ) (t : Step) → IsStep n w r c t → NoLater (name s) (r, c))
 
 module _ {n : ℕ} {w : Points} (g : Graph n w) where
   -- ---- a ring and a chain are determined by their cell
@@ -362,19 +353,19 @@ module _ {n : ℕ} {w : Points} (g : Graph n w) where
           → First n w (orElse o (orElse p q))
       go (some s) p q a b d = (a .1, after)
         where
-          after : (r : Rule) (c : ℕ) (t : Step) → IsStep n w r c t → Tried (name s) (r, c)
+          after : (r : Rule) (c : ℕ) (t : Step) → IsStep n w r c t → NoLater (name s) (r, c)
           after by-leaf c t h = inr (a .0, a .2 c t h)
           after by-ring c t h = inl (rw (a .0) (omega arith))
           after by-chain c t h = inl (rw (a .0) (omega arith))
       go none (some s) q a b d = (b .1, after)
         where
-          after : (r : Rule) (c : ℕ) (t : Step) → IsStep n w r c t → Tried (name s) (r, c)
+          after : (r : Rule) (c : ℕ) (t : Step) → IsStep n w r c t → NoLater (name s) (r, c)
           after by-leaf c t h = absurd (a c t h)
           after by-ring c t h = inr (b .0, b .2 c t h)
           after by-chain c t h = inl (rw (b .0) (omega arith))
       go none none (some s) a b d = (d .1, after)
         where
-          after : (r : Rule) (c : ℕ) (t : Step) → IsStep n w r c t → Tried (name s) (r, c)
+          after : (r : Rule) (c : ℕ) (t : Step) → IsStep n w r c t → NoLater (name s) (r, c)
           after by-leaf c t h = absurd (a c t h)
           after by-ring c t h = absurd (b c t h)
           after by-chain c t h = inr (d .0, d .2 c t h)
@@ -385,7 +376,7 @@ module _ {n : ℕ} {w : Points} (g : Graph n w) where
 
   -- it is by the first rule that has one, at the lowest cell
   pub first-step-first : (s : Step) → firstStep n w ≡ some s
-      → (r : Rule) (c : ℕ) (t : Step) → IsStep n w r c t → Tried (name s) (r, c)
+      → (r : Rule) (c : ℕ) (t : Step) → IsStep n w r c t → NoLater (name s) (r, c)
   first-step-first s h = subst (First n w) h first-step .1
 
   -- a leaf, where no lower cell is one

@@ -1,6 +1,6 @@
--- A step that is allowed is the published rule that it is named after (`published`, of a slip `slip-published`). The
--- weights that the paper speaks of are there: every part of a row has a heaviest pairing (proofs/Ways, `row-heaviest`).
--- In order: what is dropped and put among the inner cells; the three rules; slips. Assumes nothing.
+-- The graph of a list is the list after Rule 2.3 (`weightless`); a step that is allowed is the published rule that it is
+-- named after (`published`, of a slip `slip-published`). In order: lists; what is dropped and put among the inner cells; the
+-- three rules; slips. Assumes nothing.
 use mathlib.Core.Path.{_≡_, refl, sym, ap, _∙_}
 use mathlib.Core.Logic.{_⊎_, inl, inr, _≢_}
 use mathlib.Core.Bool.{Bool, true, false, cond}
@@ -10,13 +10,18 @@ use native.Mathlib.Omega.{arith}
 use lib.ListN.{length}
 use Rattle.matching.specs.Lists.{mem}
 use Rattle.matching.specs.Pairs.{Pair, Points, touches}
+use Rattle.matching.specs.Listed.{Entry, Accepted, listed}
 use Rattle.matching.specs.Graph.{Graph, put, dropped}
 use Rattle.matching.specs.Best.{H, walk}
 use Rattle.matching.specs.Steps.{Rule, by-leaf, by-ring, by-chain, Step, leaf, ring, chain}
 use Rattle.matching.specs.Steps.{leafed, ringed, chained}
 use Rattle.matching.specs.Shapes.{IsRow, IsLeaf, IsRing, IsChain, IsStep}
 use Rattle.matching.specs.Slip.{AreSteps}
-use Rattle.matching.specs.Published.{Rule24, Part, Removed, Rule25, Rule26, Published, AllPublished}
+use Rattle.matching.specs.Published.{Rule23, Rule24, Part, Removed, Rule25, Rule26}
+use Rattle.matching.specs.Published.{Published, AllPublished}
+use Rattle.matching.proofs.Alls.{all-map, all-has}
+use Rattle.matching.proofs.Pairing.{present}
+use Rattle.matching.proofs.Entries.{has-listed, listed-none, list-pairing, list-trimmed}
 use Rattle.matching.proofs.Tests.{Test, pass, fail, fails}
 use Rattle.matching.proofs.Pairs.{Same, sameT}
 use Rattle.matching.proofs.Members.{mem-apart, mem-head, mem-one, or-left}
@@ -29,6 +34,25 @@ use Rattle.matching.proofs.Find.{is-fits}
 use Rattle.matching.proofs.Ring.{ring-at, ring-out}
 use Rattle.matching.proofs.Chain.{chain-uz, chain-vz, chain-uv, chain-out}
 use Rattle.matching.proofs.Ways.{most-points}
+
+-- ---- lists
+
+pub weightless : (n : ℕ) (es : List Entry) → Accepted n es → Rule23 es (listed es)
+weightless n es h = record {
+  weights = all-map (has-listed n es h) es (all-has es);
+  others = listed-none es;
+  value = λ a b p q. (
+      let t = list-trimmed es a (p .pairing) in
+      omega (
+        arith,
+        p .most b (list-pairing es b (q .pairing)),
+        q .most (present (listed es) a) (t .0),
+        t .1,
+      )
+      );
+}
+
+-- ---- the inner cells
 
 -- A cell whose pairs are dropped has none.
 dropped-at : (cs : List ℕ) (w : Points) (c a : ℕ) → mem c cs ≡ true → dropped cs w c a ≡ 0
@@ -212,10 +236,11 @@ module _ {n : ℕ} {w : Points} (g : Graph n w) where
 
 pub slip-published : {n : ℕ} {w : Points} → Graph n w → (rs : List (Rule × ℕ)) (ss : List Step) → AreSteps n w rs ss
     → AllPublished n w ss
-slip-published g [] [] a = tt
+slip-published g [] [] a = g
 slip-published g [] (s ∷ ss) a = absurd a
 slip-published g (r ∷ rs) [] a = absurd a
 slip-published g (r ∷ rs) (s ∷ ss) a = (
+  g,
   published g (r .0) (r .1) s (a .0),
   slip-published (step-graph g s (is-fits g (r .0) (r .1) s (a .0))) rs ss (a .1),
 )

@@ -1,8 +1,9 @@
 -- Slips and reduce. In order: the steps that a slip names stand, each on what the one before it left (`replay-fits`),
--- and are what the description calls so (`replay-is`); there are no more of them than cells (`slip-count`); the steps of reduce are allowed (`reduce-replay`), come
--- in parts (`reduce-append`), and after them none is (`reduce-ends`).
+-- and are what the description calls so (`replay-is`, `replay-not`); what they carry together (`carried-sum`); there are no
+-- more of them than cells (`slip-count`); the steps of reduce are allowed (`reduce-replay`), come in parts (`reduce-append`), each is
+-- the first that is allowed, and after them none is (`reduce-in-turn`).
 use mathlib.Core.Path.{_≡_, refl, ap, ap₂, subst, _∙_}
-use mathlib.Core.Logic.{_↔_}
+use mathlib.Core.Logic.{_↔_, inl, inr}
 use mathlib.Core.List.{List, [], _∷_, _++_, map}
 use mathlib.Core.Option.{Option, some, none}
 use Prim.Native.Nat.{ℕ, zero, suc, _+_, _≤_}
@@ -13,9 +14,10 @@ use Rattle.matching.specs.Pairs.{Points}
 use Rattle.matching.specs.Graph.{Graph, cellsLeft}
 use Rattle.matching.specs.Steps.{Rule, Step, apply, carry, name}
 use Rattle.matching.specs.Find.{stepAt, firstStep}
-use Rattle.matching.specs.Slip.{replay, AreSteps, left, carries, carried, reduce}
+use Rattle.matching.specs.Slip.{replay, AreSteps, SomeStepNot, left, carries, carried, reduce, InTurn}
 use Rattle.matching.proofs.Fits.{Fits, Stands}
-use Rattle.matching.proofs.Find.{step-is, step-found, step-name, is-fits, step-fits, first-step-is}
+use Rattle.matching.proofs.Find.{step-is, step-found, step-none, step-name, is-fits, step-fits}
+use Rattle.matching.proofs.Find.{first-step-is, first-step-first, first-step-none}
 use Rattle.matching.proofs.Tally.{cells-most}
 use Rattle.matching.proofs.Count.{step-fewer}
 use Rattle.matching.proofs.Exact.{step-graph}
@@ -80,6 +82,39 @@ pub replay-is : {n : ℕ} {w : Points} → Graph n w → (slip : List (Rule × �
     → (replay n w slip ≡ some ss) ↔ AreSteps n w slip ss
 replay-is g slip ss = (λ h. replay-fits g slip ss h .3, λ p. are-replay g slip ss p)
 
+-- It is not just where some step is not allowed where it stands.
+replay-stops : {n : ℕ} {w : Points} → Graph n w → (slip : List (Rule × ℕ)) → replay n w slip ≡ none → SomeStepNot n w slip
+replay-stops g [] h = (let z : _≡_ {A = ℕ} 0 1 = cc in absurd (omega arith))
+replay-stops {n} {w} g (r ∷ rs) h =
+    go (stepAt n w (r .0) (r .1)) refl h (λ s f. replay-stops (step-graph g s f) rs)
+  where
+    go : (o : Option Step) → stepAt n w (r .0) (r .1) ≡ o
+        → _≡_ {A = Option (List Step)} (elim o [
+          | none ↦ none
+          | some s ↦ elim (replay n (apply w s) rs) [ none ↦ none | some ss ↦ some (s ∷ ss) ]
+        ]) none
+        → ((s : Step) → Fits w s → replay n (apply w s) rs ≡ none → SomeStepNot n (apply w s) rs)
+        → SomeStepNot n w (r ∷ rs)
+    go none e h i = inl (step-none g (r .0) (r .1) .0 e)
+    go (some s) e h i =
+        inr (s, step-is g (r .0) (r .1) s e, i s (step-fits g (r .0) (r .1) s e) (on (replay n (apply w s) rs) h))
+      where
+        on : (o : Option (List Step))
+            → _≡_ {A = Option (List Step)} (elim o [ none ↦ none | some ss ↦ some (s ∷ ss) ]) none → o ≡ none
+        on none q = refl
+        on (some ss) q = (let z : _≡_ {A = ℕ} 0 1 = cc in absurd (omega arith))
+
+stops-replay : {n : ℕ} {w : Points} → Graph n w → (slip : List (Rule × ℕ)) → SomeStepNot n w slip → replay n w slip ≡ none
+stops-replay g [] p = absurd p
+stops-replay g (r ∷ rs) (inl nil) = rw (step-none g (r .0) (r .1) .1 nil, replay) refl
+stops-replay g (r ∷ rs) (inr p) =
+    rw (step-found g (r .0) (r .1) (p .0) (p .1), replay)
+    (rw (stops-replay (step-graph g (p .0) (is-fits g (r .0) (r .1) (p .0) (p .1))) rs (p .2)))
+
+pub replay-not : {n : ℕ} {w : Points} → Graph n w → (slip : List (Rule × ℕ))
+    → (replay n w slip ≡ none) ↔ SomeStepNot n w slip
+replay-not g slip = (replay-stops g slip, stops-replay g slip)
+
 -- The carried points are what the steps carry, together.
 pub carried-sum : (w : Points) (ss : List Step) → carried w ss ≡ together (carries w ss)
 carried-sum w [] = refl
@@ -123,21 +158,24 @@ reduce-append (s ∷ ss) j n w h =
         let rest : reduce (length ss) n (apply w t) ≡ ss = cc in
         ap₂ _∷_ here (i t rest ∙ ap (λ (x : Step). ss ++ reduce j n (left (apply w x) ss)) here)
 
-reduce-last : (k : ℕ) {n : ℕ} {w : Points} → Graph n w → cellsLeft n w ≤ k
-    → firstStep n (left w (reduce k n w)) ≡ none
-reduce-last zero {n} {w} g h = go (firstStep n w) refl
+in-turn : (k : ℕ) {n : ℕ} {w : Points} → Graph n w → cellsLeft n w ≤ k → InTurn n w (reduce k n w)
+in-turn zero {n} {w} g h = go (firstStep n w) refl
   where
-    go : (o : Option Step) → firstStep n w ≡ o → o ≡ none
-    go none e = refl
+    go : (o : Option Step) → firstStep n w ≡ o → InTurn n w []
+    go none e = first-step-none g .0 e
     go (some s) e = absurd (omega (arith, step-fewer g s (first-fits g s e)))
-reduce-last (suc k) {n} {w} g h = go (firstStep n w) refl (λ s f. reduce-last k (step-graph g s f))
+in-turn (suc k) {n} {w} g h = go (firstStep n w) refl (λ s f. in-turn k (step-graph g s f))
   where
     go : (o : Option Step) → firstStep n w ≡ o
-        → ((s : Step) → Fits w s → cellsLeft n (apply w s) ≤ k
-        → firstStep n (left (apply w s) (reduce k n (apply w s))) ≡ none)
-        → firstStep n (left w (steps k n w o)) ≡ none
-    go none e i = e
-    go (some s) e i = let f = first-fits g s e in i s f (omega (arith, step-fewer g s f))
+        → ((s : Step) → Fits w s → cellsLeft n (apply w s) ≤ k → InTurn n (apply w s) (reduce k n (apply w s)))
+        → InTurn n w (steps k n w o)
+    go none e i = first-step-none g .0 e
+    go (some s) e i =
+        let f = first-fits g s e in (
+          step-is g (name s .0) (name s .1) s (first-step-is g s e),
+          first-step-first g s e,
+          i s f (omega (arith, step-fewer g s f)),
+        )
 
-pub reduce-ends : {n : ℕ} {w : Points} → Graph n w → firstStep n (left w (reduce n n w)) ≡ none
-reduce-ends {n} {w} g = reduce-last n g (cells-most n w)
+pub reduce-in-turn : {n : ℕ} {w : Points} → Graph n w → InTurn n w (reduce n n w)
+reduce-in-turn {n} {w} g = in-turn n g (cells-most n w)

@@ -1,8 +1,7 @@
--- Reduction Rules 2.4, 2.5 and 2.6 in the paper's words, of a graph w, the graph w′ after the rule, and the offset s by
+-- Reduction Rules 2.3 to 2.6 in the paper's words, of the graph before the rule, the graph w′ after it, and the offset s by
 -- which the solution value decreases. The weight of a part, ω(X), is the points of any heaviest pairing of it (a
--- maximum-weight matching, match(X)). Laws: proofs/Published, `published`
--- and `slip-published`. Rule 2.3 is in what a graph is: a pair of weight
--- zero is no pair, a cell without pairs is no cell.
+-- maximum-weight matching, match(X)); every part has one (`row-heaviest`, proofs/Ways). Laws: proofs/Published,
+-- `weightless` (Rule 2.3), `published` and `slip-published`.
 -- Here the cell z, new in the paper, is an inner cell; and Rule 2.5 is also for a cycle whose cells all have degree
 -- two.
 use mathlib.Core.Path.{_≡_}
@@ -11,12 +10,22 @@ use mathlib.Core.Bool.{true, false}
 use mathlib.Core.List.{List, [], _∷_}
 use Prim.Native.Nat.{ℕ, _+_, _-_, _≤_, _<_, max}
 use lib.ListN.{length}
-use Rattle.matching.specs.Lists.{mem, distinct}
+use Rattle.matching.specs.Lists.{mem, distinct, All}
 use Rattle.matching.specs.Pairs.{Pair, Points, sum, Each}
-use Rattle.matching.specs.Graph.{degree}
+use Rattle.matching.specs.Pairing.{Heaviest}
+use Rattle.matching.specs.Listed.{Entry, joined}
+use Rattle.matching.specs.Graph.{Graph, degree}
 use Rattle.matching.specs.Best.{walk}
 use Rattle.matching.specs.Steps.{Step, leaf, ring, chain, apply, carry}
 use Rattle.matching.specs.Ties.{MostOf}
+
+-- 'If deg(v) = 0 for a vertex v ∈ V, then delete v. If ω(e) = 0 for an edge e ∈ E, then delete e.' The edges are the entries
+-- of a list. In a graph a pair of weight 0 is no pair, and a cell without pairs is no cell, here and after every other
+-- rule. The solution value does not change.
+pub record Rule23 (es : List Entry) (w′ : Points) : Type 0 where
+  pub weights : All (λ (e : Entry). w′ (e .0) (e .1) ≡ e .2) es
+  pub others : (a b : ℕ) → joined es a b ≡ 0 → w′ a b ≡ 0
+  pub value : (a b : List Pair) → Heaviest (joined es) w′ a → Heaviest w′ w′ b → sum w′ a ≡ sum w′ b
 
 -- 'Let v be a degree-one vertex and let u be its neighbor. Then delete v, set the weight of every edge e incident with u
 -- to max{0, ω(e) − ω(uv)}, and decrease the solution value s by ω(uv).' A difference of numbers is not below 0.
@@ -76,7 +85,8 @@ Published n w (leaf u v) = Rule24 n w (apply w (leaf u v)) (carry w (leaf u v)) 
 Published n w (ring u z inner) = Rule25 n w (apply w (ring u z inner)) (carry w (ring u z inner)) u z inner
 Published n w (chain u v z inner) = Rule26 n w (apply w (chain u v z inner)) (carry w (chain u v z inner)) u v z inner
 
--- Each step of a slip is, where it stands.
+-- Each step of a slip is, where it stands; before and after each stands a graph, in which the order of two cells does not
+-- matter.
 abbrev pub AllPublished : ℕ → Points → List Step → Type 0
-AllPublished n w [] = Unit {0}
-AllPublished n w (s ∷ ss) = Published n w s × AllPublished n (apply w s) ss
+AllPublished n w [] = Graph n w
+AllPublished n w (s ∷ ss) = Graph n w × Published n w s × AllPublished n (apply w s) ss

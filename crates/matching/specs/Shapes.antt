@@ -67,3 +67,13 @@ IsStep n w by-ring c (chain u v z inner) = ⊥
 IsStep n w by-chain c (leaf u v) = ⊥
 IsStep n w by-chain c (ring u z inner) = ⊥
 IsStep n w by-chain c (chain u v z inner) = (z ≡ c) × IsChain n w u v z inner
+
+-- The order in which steps are tried: 'a leaf step at the lowest possible cell; without one, a ring step at the lowest cell
+-- named z; without one, a chain step likewise'. The step named x is tried no later than the one named y.
+abbrev pub rank : Rule → ℕ
+rank by-leaf = 0
+rank by-ring = 1
+rank by-chain = 2
+
+abbrev pub NoLater : Rule × ℕ → Rule × ℕ → Type 0
+NoLater x y = (rank (x .0) < rank (y .0)) ⊎ ((x .0 ≡ y .0) × (x .1 ≤ y .1))

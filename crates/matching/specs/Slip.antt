@@ -1,10 +1,11 @@
 -- Slips (reduction traces): replaying one, what it leaves and carries, and the ways back and down through it.
+use mathlib.Core.Logic.{_⊎_}
 use mathlib.Core.List.{List, [], _∷_}
 use mathlib.Core.Option.{Option, some, none}
 use Prim.Native.Nat.{ℕ, zero, suc, _+_}
 use Rattle.matching.specs.Pairs.{Pair, Points}
-use Rattle.matching.specs.Steps.{Rule, Step, apply, carry, undo, down}
-use Rattle.matching.specs.Shapes.{IsStep}
+use Rattle.matching.specs.Steps.{Rule, Step, name, apply, carry, undo, down}
+use Rattle.matching.specs.Shapes.{IsStep, NoLater}
 use Rattle.matching.specs.Find.{stepAt, firstStep}
 
 -- 'The first step of a slip stands on the list's working graph, each later one on the graph that the step before it
@@ -24,6 +25,14 @@ AreSteps n w [] [] = Unit {0}
 AreSteps n w [] (s ∷ ss) = ⊥
 AreSteps n w (r ∷ rs) [] = ⊥
 AreSteps n w (r ∷ rs) (s ∷ ss) = IsStep n w (r .0) (r .1) s × AreSteps n (apply w s) rs ss
+
+-- 'Some step of the slip is not allowed where it stands': not the first, or one on the graph that the first leaves. Law:
+-- proofs/Reduce, `replay-not`.
+abbrev pub SomeStepNot : ℕ → Points → List (Rule × ℕ) → Type 0
+SomeStepNot n w [] = ⊥
+SomeStepNot n w (r ∷ rs) =
+    ((s : Step) → IsStep n w (r .0) (r .1) s → ⊥)
+    ⊎ ((s : Step) × IsStep n w (r .0) (r .1) s × SomeStepNot n (apply w s) rs)
 
 -- What each step carries, in slip order. Law: proofs/Reduce, `carried-sum`.
 abbrev pub carries : Points → List Step → List ℕ
@@ -54,3 +63,12 @@ bring w (s ∷ ss) m = bring (apply w s) ss (down w s m)
 abbrev pub reduce : ℕ → ℕ → Points → List Step
 reduce zero n w = []
 reduce (suc k) n w = elim (firstStep n w) [ none ↦ [] | some s ↦ s ∷ reduce k n (apply w s) ]
+
+-- The same in the description's words: each step is allowed where it stands, and tried no later than any other that is;
+-- after the last none is allowed. Law: proofs/Reduce, `reduce-in-turn`.
+abbrev pub InTurn : ℕ → Points → List Step → Type 0
+InTurn n w [] = (r : Rule) (c : ℕ) (t : Step) → IsStep n w r c t → ⊥
+InTurn n w (s ∷ ss) =
+    IsStep n w (name s .0) (name s .1) s
+    × ((r : Rule) (c : ℕ) (t : Step) → IsStep n w r c t → NoLater (name s) (r, c))
+    × InTurn n (apply w s) ss

@@ -12,8 +12,12 @@
 //             fewer cells with pairs, no more pairs: Count).
 //   slips     demand 3, one theorem on the whole slip: no-gain-no-loss, Demand. The bounds of points and carried points:
 //             left-bound, total-fits; no more entries than the store: short-fewer. Demand.
-//   reduce    its steps are allowed: reduce-replay; they come in parts: reduce-append; none is allowed after them:
-//             reduce-ends. Reduce. A leaf where no lower cell is one comes first: first-leaf, Find.
+//             Replaying finds just the steps that are allowed, each where it stands: replay-is, replay-not. Reduce.
+//   reduce    its steps are allowed: reduce-replay; they come in parts: reduce-append; each is the first that is allowed,
+//             and none is after them: reduce-in-turn. Reduce. A leaf where no lower cell is one comes first: first-leaf,
+//             Find.
+//   the paper the graph of a list is the list after Rule 2.3, a step the rule that it is named after: weightless,
+//             published. Published. The way back in the description's words: row-best, step-undone, slip-lifts. Ways.
 //   solve     the recursion over sets is the choice in reading order: solve-best, Solve; it is heaviest, and the one
 //             that is named by partners: solve-heaviest, solve-first, Foremost.
 //   lists     an accepted list is a graph: listed-graph, Entries; the short list of a graph is it again: short-points,

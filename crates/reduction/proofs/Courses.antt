@@ -1,8 +1,8 @@
 -- The course of steps on an accepted list. In order: without more steps it is what the slip's names name
 -- (`course-replay`); the cells of steps that stand; what has passed the list's check (`list-there`); an accepted list
 -- is a graph of its cells (`list-graph`) whose points, with what is carried, have 44 bits after any steps that are
--- allowed (`left-small`); so the loop may run on it (`run-there`), and what the steps leave may be written
--- (`left-there`); they are at most 1,024 (`steps-few`), with cells of 10 bits (`steps-below`). Assumes nothing.
+-- allowed (`left-small`); so the loop may run on it (`run-there`), and what the steps leave is a graph
+-- (`left-graph`) that may be written (`left-there`); they are at most 1,024 (`steps-few`), with cells of 10 bits (`steps-below`). Assumes nothing.
 use mathlib.Core.Path.{_≡_, refl, ap}
 use mathlib.Core.Bool.{Bool}
 use mathlib.Core.List.{List, [], _∷_, map}
@@ -132,12 +132,15 @@ module _ (list : List ℕ) (h : first (listRows storeList list) ≡ 0) where
   }
 
   module _ (rs : List (Rule × ℕ)) (ss : List Step) (allowed : replay (cellsOf list) (graphIn list) rs ≡ some ss) where
+    pub left-graph : Graph (cellsOf list) (left (graphIn list) ss)
+    left-graph = slip-graph list-graph ss (replay-fits list-graph rs ss allowed .0)
+
     pub left-there : {n e t p k : ℕ} {w1 w2 : List ℕ} → n ≡ cellsOf list
         → After (graphIn list) ss e t p k w1 w2 → LeftThere n e w1
     left-there {e = e} {w1 = w1} en a = record {
       cells = omega (arith, en, list-accepted list h .0);
       pairs = holds-pairs (a .holds) small;
-      graph = rw (en, a .graph) (slip-graph list-graph ss (replay-fits list-graph rs ss allowed .0));
+      graph = rw (en, a .graph) left-graph;
       small = small;
     }
       where

@@ -11,4 +11,3 @@ pub mod Ends
 pub mod Starts
 pub mod Replaying
 pub mod Reducing
-pub mod Claims

@@ -16,12 +16,12 @@ use lib.Seq.{drop-set-add, take-suc-set, take-set-le}
 use Rattle.matching.specs.Pairs.{Points}
 use Rattle.matching.specs.Graph.{Graph}
 use Rattle.matching.specs.Steps.{Rule, by-leaf, by-ring, by-chain, Step, leaf, ring, chain, apply, carry, name}
-use Rattle.matching.specs.Shapes.{IsStep}
+use Rattle.matching.specs.Shapes.{IsStep, rank, NoLater}
 use Rattle.matching.specs.Find.{stepAt, firstStep, search}
 use Rattle.matching.specs.Slip.{replay, left, carried}
 use Rattle.matching.proofs.Tests.{Test, pass, fail, ltT}
 use Rattle.matching.proofs.Fits.{Stands}
-use Rattle.matching.proofs.Find.{Tried, rank, step-is, step-below, first-step-first}
+use Rattle.matching.proofs.Find.{step-is, step-below, first-step-first}
 use Rattle.matching.proofs.More.{graph-to, is-more, is-less, step-more}
 use Rattle.matching.proofs.Tally.{cells-most}
 use Rattle.matching.proofs.Reduce.{replay-fits, slip-count}
@@ -391,7 +391,7 @@ module _ {n : ℕ} {w : Points} (g : Graph n w) (le : n ≤ 1024) (small : Small
           lowest : LowestRing (graphOf slots w1) s
           lowest e c y p = go (first-step-first run-graph s first by-ring c y (is-less run-graph 1024 le by-ring c y p))
             where
-              go : Tried (name s) (by-ring, c) → name s .1 ≤ c
+              go : NoLater (name s) (by-ring, c) → name s .1 ≤ c
               go (inl b) = absurd (omega (arith, b, ap rank e))
               go (inr b) = b .1
 

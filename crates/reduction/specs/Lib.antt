@@ -6,4 +6,3 @@ pub mod Pairs
 pub mod Loads
 pub mod Writing
 pub mod Starting
-pub mod Claims

@@ -42,7 +42,7 @@ use Rattle.matching.proofs.Demand.{short-fewer}
 use Rattle.cellfile.specs.Files.{pairFields}
 use Rattle.partners.proofs.Tabled.{pairing-half}
 use Rattle.lifting.specs.Calls.{graphAfter, solution, pairingFile}
-use Rattle.lifting.proofs.PairClaim.{best-left, pairing-read, demand-pair}
+use Rattle.lifting.proofs.Filing.{file-pairing, file-in-order, file-half, all-entries, pairing-pairing, pairing-read}
 use Rattle.report.specs.Printed.{withPoints}
 use Rattle.report.specs.Writing.{found}
 use Rattle.report.proofs.Found.{found-is}
@@ -155,32 +155,21 @@ module _ (list : List ℕ) (h : first (listRows storeList list) ≡ 0) where
   abbrev ps : List Pair
   ps = pairsOf (pairingFile list)
 
-  pairing-held : Pairing (joined es) ps
-  pairing-held = demand-pair list h .heaviest .pairing
-
   -- the pairing of what is left, brought back
   abbrev brought : List Pair
   brought = lift (graphIn list) ss (solution n (graphAfter list ss))
 
-  brought-held : Pairing (graphIn list) brought
-  brought-held =
-      slip-lifted (list-graph list h) ss (replay-fits (list-graph list h) (map name ss) ss (reduce-allowed list h) .0)
-      (solution n (graphAfter list ss)) (best-left list h .pairing) .0
+  pairing-held : Pairing (joined es) ps
+  pairing-held = file-pairing few (all-entries list h) brought (pairing-pairing list h)
 
   in-order : InOrder ps
   in-order =
-      subst InOrder (sym (pairing-read list h))
-      (filed-in-order brought (each-map (pair-apart (list-graph list h)) brought (brought-held .held))
-      (brought-held .once))
-
-  -- the graph of all entries
-  all-entries : Graph n (joined es)
-  all-entries = joined-graph n es (list-accepted list h .1)
+      subst InOrder (sym (pairing-read list h)) (file-in-order few (all-entries list h) brought (pairing-pairing list h))
 
   ordered : OrderedPairs ps
   ordered =
       ordered-of ps in-order
-      (each-map (λ a b k. omega (arith, pair-below all-entries a b k .1, few)) ps (pairing-held .held))
+      (each-map (λ a b k. omega (arith, pair-below (all-entries list h) a b k .1, few)) ps (pairing-held .held))
 
   ascending : ascendingFrom 0 (map (λ (p : Pair). p .0) ps) ≡ true
   ascending = ascending-of 0 ps in-order (each-any ps)
@@ -189,11 +178,8 @@ module _ (list : List ℕ) (h : first (listRows storeList list) ≡ 0) where
   pairs-few =
       omega (
         arith,
-        few,
-        pairing-half n ps
-            (each-map (λ a b k. (let l = pair-below all-entries a b k in (l .0, l .1, pair-apart all-entries a b k))) ps
-            (pairing-held .held))
-            (pairing-held .once),
+        ap length (pairing-read list h),
+        file-half few (all-entries list h) brought (pairing-pairing list h),
       )
 
   pub pairs-length : length (pairingFile list) ≡ 4 + 3 * length ps

@@ -8,7 +8,7 @@ use mathlib.Core.Logic.{_⊎_, inl, inr, _≢_}
 use mathlib.Core.Bool.{Bool, true, false, cond}
 use mathlib.Core.List.{List}
 use mathlib.Core.Option.{some}
-use Prim.Native.Nat.{ℕ, suc, _-_, _≤_, _<_}
+use Prim.Native.Nat.{ℕ, suc, _-_, _≤_, _<_, min}
 use native.Mathlib.Omega.{arith}
 use lib.ListN.{getD}
 use Rattle.matching.specs.Lists.{mem}
@@ -123,7 +123,7 @@ abbrev pub Looked : ℕ → List ℕ → ℕ → ℕ → ℕ → ℕ → Type 0
 Looked e w1 u k least least′ = (least′ ≤ least) × ((f : ℕ) → Joins e w1 k u f → least′ ≤ f)
 
 pub looked-live : {e : ℕ} {w1 w2 : List ℕ} → Holds e w1 w2 → {u k p least r least′ : ℕ} → Joins e w1 k u p
-    → (r ≤ least) × (r ≤ p) → least′ ≡ r → Looked e w1 u k least least′
+    → r ≡ min least p → least′ ≡ r → Looked e w1 u k least least′
 looked-live h j l q = (omega arith, λ f x. omega (arith, joins-same h j x))
 
 pub looked-gone : {e : ℕ} {w1 : List ℕ} {u k least least′ : ℕ} → getD w1 k 0 ≡ 0 → least′ ≡ least

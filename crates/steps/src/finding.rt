@@ -4,7 +4,7 @@ ghost use mathlib.Core.Path.{_≡_};
 ghost use mathlib.Core.Logic.{_⊎_, _≢_};
 ghost use mathlib.Core.Bool.{true};
 ghost use mathlib.Core.List.{[]};
-ghost use Prim.Native.Nat.{_+_, _<_, _≤_};
+ghost use Prim.Native.Nat.{_+_, _<_, _≤_, min};
 ghost use Rattle.matching.specs.Pairs.{touches};
 ghost use Rattle.matching.specs.Graph.{Graph, degree};
 ghost use Rattle.matching.specs.Find.{firstStep};
@@ -328,8 +328,9 @@ pub fn first_step(w1: &[u64], w2: &[u64], e: usize, n: usize, low: usize, rings:
     scan(w1, w2, e, CHAIN, 0, n)
 }
 
+// The lower of two numbers.
 pub fn lower(a: usize, b: usize) -> usize
-    ensures { λ r. ⌜ (r ≤ a) × (r ≤ b) ⌝ }
+    ensures { λ r. ⌜ r ≡ min a b ⌝ }
 {
     if a < b {
         return a;

@@ -21,7 +21,9 @@ last-slot-requires : tie.Need-last-slot-requires Inv-loop μ-loop
 last-slot-requires c κs = c .before .before .before .pre
 
 loop-holds : tie.Need-loop-holds Inv-loop μ-loop
-loop-holds c = lows-start (c .last-slot .ensures) (c .before .lower .ensures .0) (c .before .lower .ensures .1)
+loop-holds c =
+    let m = c .before .lower .ensures in
+    lows-start (c .last-slot .ensures) (omega (arith, m)) (omega (arith, m))
 
 returns : tie.Need-returns Inv-loop μ-loop
 returns c = near-zero

@@ -1,5 +1,6 @@
-// For a sceptic: replay, lift and weigh on one list, slip and pairing, and what demand 3 says of what they answer and
-// write. See specs/Asking.
+// What the calls promise together, of the files that they read and write: specs/Demand and specs/Claims, with the laws in
+// proofs/. One function, for no caller but the reader: replay, lift and weigh on one list, slip and pairing, and demand 3 of
+// what they themselves answer and write (specs/Asking).
 use cellfile::Weighed;
 use lifting::Paired;
 use reduction::Replayed;
@@ -8,7 +9,7 @@ ghost use lib.ListN.{length};
 ghost use Rattle.cellfile.specs.Files.{lent, Cleared};
 ghost use Rattle.reduction.specs.Calls.{written, replaying, replayShort};
 ghost use Rattle.lifting.specs.Calls.{liftFile};
-ghost use Rattle.sceptic.specs.Asking.{asked, lifts, asking, Told};
+ghost use Rattle.claims.specs.Asking.{asked, lifts, asking, Tells};
 
 // The refusal of the first call that refuses, or the lengths that replay and lift answer and the points that weigh does.
 pub enum Asked {
@@ -40,7 +41,8 @@ pub fn ask(
         (lent (now («work_a» .entry)) (now («work_b» .entry))) (length (now (short .entry)))
         (length (now (lifted .entry))) .0)
         (liftFile (now (list .entry)) (now (slip .entry)) (now (pairing .entry))) (now (lifted .entry))) ⌝ }
-    ensures demand { λ r. ⌜ Told (now (list .entry)) (now (pairing .entry)) (now (short .exit)) (now (lifted .exit)) r ⌝ }
+    ensures demand { λ r. ⌜ Tells (now (list .entry)) (now (slip .entry)) (now (pairing .entry))
+        (now (short .exit)) (now (lifted .exit)) r ⌝ }
     ensures cleared { λ _. ⌜ Cleared (now («work_a» .entry)) (now («work_a» .exit))
         × Cleared (now («work_b» .entry)) (now («work_b» .exit)) ⌝ }
 {

@@ -11,10 +11,10 @@ use Rattle.cellfile.specs.Files.{lent}
 use Rattle.cellfile.specs.Answers.{Answer, weighed}
 use Rattle.reduction.specs.Calls.{written, replayed, replaying, replayShort}
 use Rattle.lifting.specs.Calls.{paired, lifting, liftFile}
-use Rattle.sceptic.proofs.Telling.{lent-again, clear-again, lifts-here, lift-room, lifted-again, told}
-use Rattle.sceptic.proofs.Telling.{asking-refused, asking-lift-refused, asking-weighs, lifted-stays, lifted-written}
-use Rattle.sceptic.proofs.ask.Statement.{statement}
-use Rattle.sceptic.proofs.ask.Tie as tie
+use Rattle.claims.proofs.Telling.{lent-again, clear-again, lifts-here, lift-room, lifted-again, told}
+use Rattle.claims.proofs.Telling.{asking-refused, asking-lift-refused, asking-weighs, lifted-stays, lifted-written}
+use Rattle.claims.proofs.ask.Statement.{statement}
+use Rattle.claims.proofs.ask.Tie as tie
 
 -- Replay's call, lift's call, and what was given.
 abbrev at-replay : tie.After-i → tie.After-replay

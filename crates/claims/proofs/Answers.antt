@@ -1,0 +1,216 @@
+-- What the answers tell. In order: the answer 0, by call (`zero-tells`); 8 and 11, each just where its condition is the first
+-- that holds (`refusals-tell`). Assumes nothing.
+use mathlib.Core.Path.{_≡_, refl, sym, ap, subst, _∙_}
+use mathlib.Core.Logic.{_↔_, _≢_}
+use mathlib.Core.Bool.{Bool, true, false, not, false≢true, true≢false}
+use mathlib.Core.List.{List, [], _∷_, _++_, map}
+use mathlib.Core.Option.{Option, some, none}
+use Prim.Native.Nat.{ℕ, _≤_, _<_}
+use native.Mathlib.Omega.{arith}
+use lib.ListN.{length, getD}
+use borrow.Author.Tests.{lt-ltb, ltb-true, ltb-false, not-false}
+use Rattle.matching.specs.Lists.{All}
+use Rattle.matching.specs.Pairs.{Points}
+use Rattle.matching.specs.Pairing.{Pairing, isPairing}
+use Rattle.matching.specs.Graph.{cellsLeft}
+use Rattle.matching.specs.Steps.{Step}
+use Rattle.matching.specs.Slip.{SomeStepNot}
+use Rattle.matching.proofs.Pairing.{is-pairing}
+use Rattle.matching.proofs.Reduce.{replay-not}
+use Rattle.cellfile.specs.Files.{cellsOf, stepsOf, pairsOf}
+use Rattle.cellfile.specs.Refusals.{Row, first, fewWords, badSlip, disallowed, badPairing, noPairing}
+use Rattle.cellfile.specs.Refusals.{crowded, shortOutput}
+use Rattle.cellfile.specs.Answers.{answer}
+use Rattle.cellfile.proofs.Rows.{or-none}
+use Rattle.cellfile.proofs.Layers.{callRows, call-sound, call-refused}
+use Rattle.cellfile.proofs.Weights.{weigh-sound}
+use Rattle.reduction.specs.Calls.{graphIn, asName, stepsOn, stand, replayShort, reduceSteps}
+use Rattle.reduction.proofs.Courses.{list-graph}
+use Rattle.lifting.specs.Calls.{graphAfter, bySteps, slipRows, liftFile, solveFile, pairingFile, pairing}
+use Rattle.claims.specs.Demand.{AcceptedList, Allowed, Liftable}
+use Rattle.claims.specs.Claims.{leftCells, reduceSlip, reduceShort, Wrote, ZeroTells, Eight, RefusalsTell}
+use Rattle.claims.proofs.Slips.{named, by-steps, after-pairing}
+use Rattle.claims.proofs.Demand.{roomRow, replayRows, liftRows, reduceRows, stands}
+use Rattle.claims.proofs.Solved.{solveRows, countIn, same-count}
+use Rattle.claims.proofs.Paired.{pairRows, same-left}
+
+-- ---- the answer 0
+
+room-there : (room : ℕ) (file : List ℕ) → shortOutput ((room, length file) ∷ []) ≡ false → length file ≤ room
+unfolding shortOutput
+room-there room file e = ltb-false room (length file) (or-none _ _ e .0)
+
+rooms-there : (r s : ℕ) (f g : List ℕ) → shortOutput ((r, length f) ∷ (s, length g) ∷ []) ≡ false
+    → (length f ≤ r) × (length g ≤ s)
+unfolding shortOutput
+rooms-there r s f g e =
+    let a = or-none _ _ e in
+    (ltb-false r (length f) (a .0), ltb-false s (length g) (or-none _ _ (a .1) .0))
+
+-- from the rows of a call with one output
+wrote : {file lent : List ℕ} {room i : ℕ} → fewWords lent ≡ false → shortOutput ((room, length file) ∷ []) ≡ false
+    → i ∷ [] ≡ length file ∷ [] → Wrote file lent room i
+wrote {file} {lent} {room} few r v =
+    record { words = few; fits = room-there room file r; value = ap (λ (vs : List ℕ). getD vs 0 0) v }
+
+steps-there : (list slip : List ℕ) → disallowed (stand list) slip ≡ false
+    → (ss : List Step) × (stepsOn list (stepsOf slip) ≡ some ss)
+steps-there list slip h = go (stepsOn list (stepsOf slip)) refl
+  where
+    go : (o : Option (List Step)) → stepsOn list (stepsOf slip) ≡ o
+        → (ss : List Step) × (stepsOn list (stepsOf slip) ≡ some ss)
+    go none e =
+        absurd (true≢false (sym (ap (λ (o : Option (List Step)). not (elim o [ none ↦ false | some ss ↦ true ])) e) ∙ h))
+    go (some ss) e = (ss, e)
+
+allowed-of : (list slip : List ℕ) → AcceptedList list → badSlip (cellsOf list) slip ≡ false
+    → disallowed (stand list) slip ≡ false → Allowed list slip
+allowed-of list slip h f s =
+    let t = steps-there list slip s in
+    record { accepted = h; formed = f; steps = t .0; stand = named list h slip (t .0) .0 (t .1) }
+
+-- refusal 10 is for the graph left, which has the pairings of the short list
+liftable-of : (list slip pairing : List ℕ) → Allowed list slip → badPairing (cellsOf list) pairing ≡ false
+    → noPairing (bySteps list slip (graphIn list) (graphAfter list)) (pairsOf pairing) ≡ false
+    → Liftable list slip pairing
+liftable-of list slip pairing h f e =
+    let there = bySteps list slip (graphIn list) (graphAfter list) in
+    record {
+      formed = f;
+      pairs = after-pairing list slip h (pairsOf pairing)
+          (subst (λ (w : Points). Pairing w (pairsOf pairing)) (by-steps list slip h (graphIn list) (graphAfter list))
+          (is-pairing there (pairsOf pairing) (not-false (isPairing there (pairsOf pairing)) e)));
+    }
+
+pub zero-tells : ZeroTells
+zero-tells = record {
+  replays = λ list slip lent room i e. (
+      let a =
+      call-sound list lent (replayRows list slip room) (i ∷ []) (length (replayShort list slip) ∷ []) (omega arith) e in
+      (allowed-of list slip (a .1) (a .2 .0) (a .2 .1 .0), wrote (a .0) (a .2 .1 .1 .0) (a .3))
+      );
+  lifts = λ list slip pairing lent room i e. (
+      let a =
+      call-sound list lent (liftRows list slip pairing room) (i ∷ []) (length (liftFile list slip pairing) ∷ [])
+      (omega arith) e in
+      let h = allowed-of list slip (a .1) (a .2 .0) (a .2 .1 .0) in (
+        h,
+        liftable-of list slip pairing h (a .2 .1 .1 .0) (a .2 .1 .1 .1 .0),
+        wrote (a .0) (a .2 .1 .1 .1 .1 .0) (a .3),
+      )
+      );
+  weighs = weigh-sound;
+  reduces = λ list lent slipRoom shortRoom i j e. (
+      let a =
+      call-sound list lent (reduceRows list slipRoom shortRoom) (i ∷ j ∷ [])
+      (length (reduceSlip list) ∷ length (reduceShort list) ∷ []) (omega arith) e in
+      let r = rooms-there slipRoom shortRoom (reduceSlip list) (reduceShort list) (a .2 .0) in (
+        a .1,
+        record { words = a .0; fits = r .0; value = ap (λ (vs : List ℕ). getD vs 0 0) (a .3) },
+        record { words = a .0; fits = r .1; value = ap (λ (vs : List ℕ). getD vs 1 0) (a .3) },
+      )
+      );
+  solves = λ list slip lent room i e. (
+      let a =
+      call-sound list lent (solveRows list slip room) (i ∷ []) (length (solveFile list slip) ∷ []) (omega arith) e in
+      let h = allowed-of list slip (a .1) (a .2 .0) (a .2 .1 .0) in (
+        h,
+        ltb-false 12 (leftCells list slip) (ap crowded (sym (same-count list slip h)) ∙ a .2 .1 .1 .0),
+        wrote (a .0) (a .2 .1 .1 .1 .0) (a .3),
+      )
+      );
+  pairs = λ list lent room i e. (
+      let a = call-sound list lent (pairRows list room) (i ∷ []) (length (pairingFile list) ∷ []) (omega arith) e in (
+        a .1,
+        ltb-false 12 (leftCells list (reduceSlip list)) (ap crowded (sym (same-left list (a .1))) ∙ a .2 .0),
+        wrote (a .0) (a .2 .1 .0) (a .3),
+      )
+      );
+}
+
+-- ---- the answers 8 and 11
+
+-- some step is not allowed where it stands just where the slip does not stand
+some-not : (list slip : List ℕ) → AcceptedList list
+    → (disallowed (stand list) slip ≡ true) ↔ SomeStepNot (cellsOf list) (graphIn list) (map asName (stepsOf slip))
+some-not list slip h = (
+  (λ e. just .0 (none-there (stepsOn list (stepsOf slip)) e)),
+  (λ p. ap (λ (o : Option (List Step)). not (elim o [ none ↦ false | some ss ↦ true ])) (just .1 p)),
+)
+  where
+    just : (stepsOn list (stepsOf slip) ≡ none)
+        ↔ SomeStepNot (cellsOf list) (graphIn list) (map asName (stepsOf slip))
+    just = replay-not (list-graph list h) (map asName (stepsOf slip))
+
+    none-there : (o : Option (List Step)) → not (elim o [ none ↦ false | some ss ↦ true ]) ≡ true → o ≡ none
+    none-there none e = refl
+    none-there (some ss) e = absurd (false≢true e)
+
+-- of a call whose rows after those of the list are 7, 8 and others
+eight : (list slip : List ℕ) (more : ℕ → List Row) (values : List ℕ)
+    → ((room : ℕ) → All (λ (r : Row). r .0 ≢ 8) (more room))
+    → Eight list slip (λ lent room. answer (first (callRows list lent (slipRows list slip ++ more room))) values)
+eight list slip more values p lent room = (
+  (λ e. let s = just .0 e in (s .0, s .1, s .2 .0, some-not list slip (s .1) .0 (s .3))),
+  (λ s. just .1 (s .0, s .1, (s .2, tt), some-not list slip (s .1) .1 (s .3))),
+)
+  where
+    just : (answer (first (callRows list lent (slipRows list slip ++ more room))) values ≡ (8, []))
+        ↔ ((fewWords lent ≡ false) × AcceptedList list × ((badSlip (cellsOf list) slip ≡ false) × Unit {0})
+        × (disallowed (stand list) slip ≡ true))
+    just =
+        call-refused list lent ((7, badSlip (cellsOf list) slip) ∷ []) (more room) 8 (disallowed (stand list) slip) values
+        (omega arith) ((λ e. omega arith), tt) (p room)
+
+pub refusals-tell : RefusalsTell
+refusals-tell = record {
+  eight = λ list slip. (
+    eight list slip (λ room. roomRow room (replayShort list slip) ∷ []) (length (replayShort list slip) ∷ [])
+        (λ room. ((λ e. omega arith), tt)),
+    eight list slip (λ room. (11, crowded (countIn list slip)) ∷ roomRow room (solveFile list slip) ∷ [])
+        (length (solveFile list slip) ∷ []) (λ room. ((λ e. omega arith), ((λ e. omega arith), tt))),
+    (λ pairing. eight list slip (λ room. (9, badPairing (cellsOf list) pairing)
+        ∷ (10, noPairing (bySteps list slip (graphIn list) (graphAfter list)) (pairsOf pairing))
+        ∷ roomRow room (liftFile list slip pairing) ∷ [])
+        (length (liftFile list slip pairing) ∷ [])
+        (λ room. ((λ e. omega arith), ((λ e. omega arith), ((λ e. omega arith), tt))))),
+  );
+  eleven-solve = λ list slip lent room. (
+      let just =
+      call-refused list lent (slipRows list slip) (roomRow room (solveFile list slip) ∷ []) 11
+      (crowded (countIn list slip)) (length (solveFile list slip) ∷ []) (omega arith)
+      ((λ e. omega arith), ((λ e. omega arith), tt)) ((λ e. omega arith), tt) in (
+        (λ e. (
+            let s = just .0 e in
+            let h = allowed-of list slip (s .1) (s .2 .0) (s .2 .1 .0) in
+            (s .0, h, ltb-true 12 (leftCells list slip) (ap crowded (sym (same-count list slip h)) ∙ s .3))
+            )),
+        (λ s. just .1 (
+          s .0,
+          s .1 .accepted,
+          (s .1 .formed, (ap not (stands list slip (s .1)), tt)),
+          ap crowded (same-count list slip (s .1)) ∙ lt-ltb 12 (leftCells list slip) (s .2),
+        )),
+      )
+      );
+  eleven-pair = λ list lent room. (
+      let just =
+      call-refused list lent [] (roomRow room (pairingFile list) ∷ []) 11
+      (crowded (cellsLeft (cellsOf list) (graphAfter list (reduceSteps list)))) (length (pairingFile list) ∷ [])
+      (omega arith) tt ((λ e. omega arith), tt) in (
+        (λ e. (
+            let s = just .0 e in (
+              s .0,
+              s .1,
+              ltb-true 12 (leftCells list (reduceSlip list)) (ap crowded (sym (same-left list (s .1))) ∙ s .3),
+            )
+            )),
+        (λ s. just .1 (
+          s .0,
+          s .1,
+          tt,
+          ap crowded (same-left list (s .1)) ∙ lt-ltb 12 (leftCells list (reduceSlip list)) (s .2),
+        )),
+      )
+      );
+}

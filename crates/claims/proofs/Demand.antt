@@ -1,0 +1,158 @@
+-- Demand 3: `demand-three`. In order: refusal 12; where nothing is refused replay and lift answer (`replay-writes`,
+-- `lift-writes`); what the short list keeps (`short-keeps`); what is lifted keeps (`lift-keeps`). Assumes nothing.
+use mathlib.Core.Path.{_≡_, sym, ap, ap₂, subst, _∙_}
+use mathlib.Core.Bool.{true, false, not}
+use mathlib.Core.List.{List, [], _∷_, _++_}
+use Prim.Native.Nat.{ℕ, _+_, _≤_}
+use native.Mathlib.Omega.{arith}
+use lib.ListN.{length, length-map}
+use borrow.Author.Tests.{le-ltb}
+use Rattle.matching.specs.Pairs.{Pair, Points, sum}
+use Rattle.matching.specs.Pairing.{Pairing, isPairing}
+use Rattle.matching.specs.Listed.{points, filed}
+use Rattle.matching.specs.Demand.{NoGainNoLoss}
+use Rattle.matching.specs.Slip.{left, lift}
+use Rattle.matching.proofs.Pairing.{pairing-is}
+use Rattle.matching.proofs.Reduce.{replay-fits}
+use Rattle.matching.proofs.Demand.{no-gain-no-loss}
+use Rattle.cellfile.specs.Files.{cellsOf, stepsOf, pairsOf}
+use Rattle.cellfile.specs.Refusals.{Row, badPairing, noPairing, shortOutput}
+use Rattle.cellfile.proofs.Layers.{call-passes}
+use Rattle.reduction.specs.Calls.{graphIn, asName, stand, replayShort, replaying}
+use Rattle.reduction.specs.Writing.{slipRow, standRow}
+use Rattle.reduction.proofs.Loading.{list-accepted}
+use Rattle.reduction.proofs.Courses.{list-graph}
+use Rattle.lifting.specs.Calls.{graphAfter, liftedFile, bySteps, slipRows, liftFile, lifting, solution}
+use Rattle.lifting.proofs.Solution.{solution-heaviest}
+use Rattle.lifting.proofs.Filing.{file-read, all-entries, lifted-pairing, heaviest-lifted}
+use Rattle.claims.specs.Demand.{storeOf, shortOf, PairingOf, HeaviestOf, Writes}
+use Rattle.claims.specs.Demand.{Allowed, Liftable, ShortKeeps, LiftKeeps, DemandThree}
+use Rattle.claims.specs.Claims.{reduceSlip, reduceShort}
+use Rattle.claims.proofs.Slips.{rs, after, taken, by-steps, carried-is, graph-after, short-graph}
+use Rattle.claims.proofs.Slips.{pairing-after, heaviest-after, after-heaviest}
+
+-- ---- refusal 12, and the rows of the calls after those of the list
+
+abbrev pub roomRow : ℕ → List ℕ → Row
+roomRow room file = (12, shortOutput ((room, length file) ∷ []))
+
+pub room-enough : (room : ℕ) (file : List ℕ) → length file ≤ room → shortOutput ((room, length file) ∷ []) ≡ false
+unfolding shortOutput
+room-enough room file l = rw (le-ltb room (length file) l)
+
+abbrev pub replayRows : (list slip : List ℕ) (room : ℕ) → List Row
+replayRows list slip room = slipRows list slip ++ roomRow room (replayShort list slip) ∷ []
+
+abbrev pub liftRows : (list slip pairing : List ℕ) (room : ℕ) → List Row
+liftRows list slip pairing room =
+    slipRows list slip ++ (9, badPairing (cellsOf list) pairing)
+    ∷ (10, noPairing (bySteps list slip (graphIn list) (graphAfter list)) (pairsOf pairing))
+    ∷ roomRow room (liftFile list slip pairing) ∷ []
+
+abbrev pub reduceRows : (list : List ℕ) (slipRoom shortRoom : ℕ) → List Row
+reduceRows list slipRoom shortRoom =
+    (12, shortOutput ((slipRoom, length (reduceSlip list)) ∷ (shortRoom, length (reduceShort list)) ∷ [])) ∷ []
+
+-- ---- a slip that is allowed
+
+module _ (list slip : List ℕ) (h : Allowed list slip) where
+  pub stands : stand list (stepsOf slip) ≡ true
+  stands = by-steps list slip h false (λ ts. true)
+
+  replay-writes : Writes (replaying list slip) (replayShort list slip)
+  replay-writes lent room enough l =
+      call-passes list lent (replayRows list slip room) (length (replayShort list slip) ∷ []) enough (h .accepted)
+      (h .formed, (ap not stands, (room-enough room (replayShort list slip) l, tt)))
+
+  whole : NoGainNoLoss (cellsOf list) (storeOf list) (h .steps)
+  whole =
+      no-gain-no-loss (cellsOf list) (storeOf list) (list-accepted list (h .accepted) .1) (rs list slip h) (h .steps)
+      (taken list slip h)
+
+  -- the graph left and the short list give the same points
+  same-points : (m : List Pair) → sum (left (graphIn list) (h .steps)) m ≡ points (shortOf (replayShort list slip)) m
+  same-points m = ap (λ (w : Points). sum w m) (sym (short-graph list slip h))
+
+  -- a heaviest pairing of the graph left, lifted, is one of the store
+  pub store-heaviest : (m : List Pair) → HeaviestOf (shortOf (replayShort list slip)) m
+      → HeaviestOf (storeOf list) (filed (lift (graphIn list) (h .steps) m))
+  store-heaviest m q =
+      heaviest-lifted list (h .accepted) (rs list slip h) (h .steps) (taken list slip h) m (heaviest-after list slip h m q)
+
+  some-heaviest : HeaviestOf (shortOf (replayShort list slip)) (solution (cellsOf list) (after list slip h))
+  some-heaviest =
+      after-heaviest list slip h (solution (cellsOf list) (after list slip h))
+      (solution-heaviest (cellsOf list) (after list slip h) (graph-after list slip h))
+
+  short-keeps : ShortKeeps list slip (replayShort list slip)
+  short-keeps = record {
+    equal = λ a b p q. (
+        whole .heaviest a b p (heaviest-after list slip h b q)
+        ∙ ap₂ _+_ (same-points b) (sym (carried-is list slip h))
+        );
+    of-store = (_, store-heaviest (solution (cellsOf list) (after list slip h)) some-heaviest);
+    of-short = (_, some-heaviest);
+    steps = omega (
+      arith,
+      whole .steps,
+      replay-fits (list-graph list (h .accepted)) (rs list slip h) (h .steps) (taken list slip h) .1,
+      length-map (stepsOf slip) asName,
+    );
+  }
+
+  -- ---- a pairing of the short list
+
+  module _ (pairing : List ℕ) (p : Liftable list slip pairing) where
+    abbrev m : List Pair
+    m = pairsOf pairing
+
+    fits : Pairing (left (graphIn list) (h .steps)) (pairsOf pairing)
+    fits = pairing-after list slip h m (p .pairs)
+
+    -- refusal 10 is for the graph left
+    pub there : noPairing (bySteps list slip (graphIn list) (graphAfter list)) (pairsOf pairing) ≡ false
+    there =
+        ap (λ (w : Points). noPairing w m) (by-steps list slip h (graphIn list) (graphAfter list))
+        ∙ ap not (pairing-is (after list slip h) m fits)
+
+    lift-writes : Writes (lifting list slip pairing) (liftFile list slip pairing)
+    lift-writes lent room enough l =
+        call-passes list lent (liftRows list slip pairing room) (length (liftFile list slip pairing) ∷ []) enough
+        (h .accepted)
+        (h .formed, (ap not stands, (p .formed, (there, (room-enough room (liftFile list slip pairing) l, tt)))))
+
+    pub same-lifted : liftFile list slip pairing ≡ liftedFile list (h .steps) (pairsOf pairing)
+    same-lifted = by-steps list slip h [] (λ ts. liftedFile list ts m)
+
+    pub store-pairing : PairingOf (storeOf list) (lift (graphIn list) (h .steps) (pairsOf pairing))
+    store-pairing = lifted-pairing list (h .accepted) (rs list slip h) (h .steps) (taken list slip h) m fits
+
+    pub lifted-is : pairsOf (liftFile list slip pairing) ≡ filed (lift (graphIn list) (h .steps) (pairsOf pairing))
+    lifted-is =
+        ap pairsOf same-lifted
+        ∙ file-read (list-accepted list (h .accepted) .0) (all-entries list (h .accepted))
+        (lift (graphIn list) (h .steps) m) store-pairing
+
+    pub lift-keeps : LiftKeeps list (replayShort list slip) pairing (liftFile list slip pairing)
+    lift-keeps = record {
+      pairs = subst (PairingOf (storeOf list)) (sym lifted-is) (whole .exact m fits .0);
+      exact =
+          ap (points (storeOf list)) lifted-is
+          ∙ whole .exact m fits .1
+          ∙ ap₂ _+_ (same-points m) (sym (carried-is list slip h));
+      level = λ a b d x y k. (
+          let k′ : sum (after list slip h) b ≡ sum (after list slip h) m + d =
+          same-points b ∙ k ∙ ap (λ i. i + d) (sym (same-points m)) in
+          whole .level a b m d x (heaviest-after list slip h b y) fits k′
+          ∙ ap (λ (x : List Pair). points (storeOf list) x + d) (sym lifted-is)
+          );
+      heaviest = λ q. subst (HeaviestOf (storeOf list)) (sym lifted-is) (store-heaviest m q);
+    }
+
+-- Nobody who lifts a pairing of the short list can gain or lose a point.
+pub demand-three : DemandThree
+demand-three list slip h = (
+  replay-writes list slip h,
+  short-keeps list slip h,
+  (λ pairing p. (lift-writes list slip h pairing p, lift-keeps list slip h pairing p)),
+)

@@ -1,0 +1,8 @@
+-- The laws of what the calls say together.
+pub mod Slips
+pub mod Demand
+pub mod Claims
+pub mod Solved
+pub mod Paired
+pub mod Answers
+pub mod Telling

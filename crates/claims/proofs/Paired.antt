@@ -1,0 +1,79 @@
+-- Pair: `pair-claim`. It is reduce, solve and lift (`three-calls`), and so what these say holds of it. Assumes nothing.
+use mathlib.Core.Path.{_≡_, sym, ap, subst, _∙_}
+use mathlib.Core.List.{List, [], _∷_, map}
+use Prim.Native.Nat.{ℕ, _+_, _≤_}
+use native.Mathlib.Omega.{arith}
+use lib.ListN.{length}
+use borrow.Author.Tests.{le-ltb}
+use Rattle.matching.specs.Listed.{points}
+use Rattle.matching.specs.Graph.{cellsLeft}
+use Rattle.matching.specs.Steps.{name}
+use Rattle.cellfile.specs.Files.{cellsOf, pairsOf, carriedOf}
+use Rattle.cellfile.specs.Refusals.{Row, crowded}
+use Rattle.cellfile.specs.Weigh.{weighing}
+use Rattle.cellfile.proofs.Layers.{call-passes}
+use Rattle.reduction.specs.Calls.{replayShort, reduceSteps}
+use Rattle.reduction.proofs.Reducing.{reduce-allowed}
+use Rattle.lifting.specs.Calls.{graphAfter, liftedFile, solveFile, liftFile, pairingFile, pairing}
+use Rattle.claims.specs.Demand.{AcceptedList, storeOf, shortOf, HeaviestOf, Writes, Allowed, Liftable}
+use Rattle.claims.specs.Claims.{leftCells, reduceSlip, SolveClaim, LiftClaim, PairClaim}
+use Rattle.claims.proofs.Slips.{slip-allowed, short-graph}
+use Rattle.claims.proofs.Demand.{roomRow, room-enough, same-lifted, demand-three}
+use Rattle.claims.proofs.Claims.{lift-claim, reduce-claim}
+use Rattle.claims.proofs.Solved.{solve-read, solve-claim}
+
+-- The rows of pair after those of the list.
+abbrev pub pairRows : (list : List ℕ) (room : ℕ) → List Row
+pairRows list room =
+    (11, crowded (cellsLeft (cellsOf list) (graphAfter list (reduceSteps list)))) ∷ roomRow room (pairingFile list) ∷ []
+
+module _ (list : List ℕ) (h : AcceptedList list) where
+  abbrev slip : List ℕ
+  slip = reduceSlip list
+
+  abbrev allowed : Allowed list slip
+  allowed = slip-allowed list h (map name (reduceSteps list)) (reduceSteps list) (reduce-allowed list h)
+
+  -- the rows of pair count the cells of the short list that reduce writes
+  pub same-left : cellsLeft (cellsOf list) (graphAfter list (reduceSteps list)) ≡ leftCells list (reduceSlip list)
+  same-left = ap (cellsLeft (cellsOf list)) (sym (short-graph list slip allowed))
+
+  solve : SolveClaim list slip
+  solve = solve-claim list slip allowed
+
+  liftable : Liftable list slip (solveFile list slip)
+  liftable = solve .liftable
+
+  lift : LiftClaim list slip (solveFile list slip) (reduceSteps list)
+  lift = lift-claim list slip (solveFile list slip) allowed liftable
+
+  -- reduce, solve, lift
+  three-calls : pairingFile list ≡ liftFile list (reduceSlip list) (solveFile list (reduceSlip list))
+  three-calls =
+      ap (liftedFile list (reduceSteps list)) (sym (solve-read list slip allowed))
+      ∙ sym (same-lifted list slip allowed (solveFile list slip) liftable)
+
+  pair-writes : leftCells list (reduceSlip list) ≤ 12 → Writes (pairing list) (pairingFile list)
+  pair-writes few lent room enough l =
+      call-passes list lent (pairRows list room) (length (pairingFile list) ∷ []) enough h
+      (ap crowded same-left ∙ le-ltb 12 (leftCells list slip) few, (room-enough room (pairingFile list) l, tt))
+
+  pub pair-claim : PairClaim list
+  pair-claim =
+      let reduce = reduce-claim list h in
+      record {
+        writes = pair-writes;
+        composed = three-calls;
+        reduced = reduce;
+        solved = solve;
+        lifted = lift;
+        heaviest = subst (λ (f : List ℕ). HeaviestOf (storeOf list) (pairsOf f)) (sym three-calls)
+            (demand-three list slip allowed .2 (solveFile list slip) liftable .1 .heaviest (solve .heaviest));
+        weighs = λ lent enough. (
+            ap (λ (f : List ℕ). weighing list f lent) three-calls
+            ∙ lift .weighs lent enough
+            ∙ ap (λ (f : List ℕ). (0, (points (shortOf f) (pairsOf (solveFile list slip)) + carriedOf f) ∷ []))
+            (reduce .replays)
+            );
+        longest = omega (arith, ap length three-calls, lift .longest);
+      }

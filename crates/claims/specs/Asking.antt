@@ -1,0 +1,49 @@
+-- What a function that calls replay, lift and weigh one after the other answers and writes, and what it is told: demand 3 of
+-- the very bytes that the calls wrote and of the points that weigh answered. Law: proofs/Telling, `told`.
+use mathlib.Core.Path.{_≡_}
+use mathlib.Core.List.{List, [], _∷_, _++_}
+use Prim.Native.Nat.{ℕ, _+_}
+use lib.ListN.{take}
+use Rattle.matching.specs.Listed.{points}
+use Rattle.cellfile.specs.Files.{pairsOf, carriedOf}
+use Rattle.cellfile.specs.Answers.{Answer}
+use Rattle.cellfile.specs.Weigh.{weighing}
+use Rattle.reduction.specs.Calls.{replaying}
+use Rattle.lifting.specs.Calls.{lifting, liftFile}
+use Rattle.claims.specs.Demand.{shortOf, ShortKeeps, LiftKeeps}
+use Rattle.claims.specs.declared.Asked.{Asked}
+use Rattle.claims.specs.declared.Asked.the-variants.{Refused, Answered}
+
+-- The number and the values of each case of the answer.
+abbrev pub asked : Asked → Answer
+asked (Refused k) = (k, [])
+asked (Answered short lifted points) = (0, short ∷ lifted ∷ points ∷ [])
+
+-- The next call with the values so far; a refusal has none.
+abbrev pub andThen : Answer → (List ℕ → Answer) → Answer
+andThen (k, []) next = (k, [])
+andThen (k, v ∷ vs) next = next (v ∷ vs)
+
+-- Replay, then lift.
+abbrev pub lifts : (list slip pairing lent : List ℕ) (shortRoom liftedRoom : ℕ) → Answer
+lifts list slip pairing lent shortRoom liftedRoom =
+    andThen (replaying list slip lent shortRoom) (λ i. lifting list slip pairing lent liftedRoom)
+
+-- Replay, then lift, then weigh what lift wrote.
+abbrev pub asking : (list slip pairing lent : List ℕ) (shortRoom liftedRoom : ℕ) → Answer
+asking list slip pairing lent shortRoom liftedRoom =
+    andThen (replaying list slip lent shortRoom) (λ i.
+    andThen (lifting list slip pairing lent liftedRoom) (λ j.
+    andThen (weighing list (liftFile list slip pairing) lent) (λ p. (0, i ++ j ++ p))))
+
+-- Of the list, slip and pairing that were read, the short list and the lifted pairing that were written, and the points that
+-- weigh answered: they are the short pairing's points plus the carried points, and the rest of demand 3 holds.
+pub record Told (list slip pairing short lifted : List ℕ) (weighed : ℕ) : Type 0 where
+  pub exactly : weighed ≡ points (shortOf short) (pairsOf pairing) + carriedOf short
+  pub shortened : ShortKeeps list slip short
+  pub lifts : LiftKeeps list short pairing lifted
+
+-- Where all three answer, of as much of the outputs as replay and lift answered.
+abbrev pub Tells : (list slip pairing short lifted : List ℕ) → Asked → Type 0
+Tells list slip pairing short lifted (Refused k) = Unit {0}
+Tells list slip pairing short lifted (Answered i j p) = Told list slip pairing (take i short) (take j lifted) p

@@ -1,0 +1,189 @@
+-- What the calls say together, of the files that they read and write, beside demand 3. In order: what the answers 0, 8 and
+-- 11 tell; the hypotheses of demand 3 are met, by every well-formed list, every sequence of steps that are allowed and every
+-- pairing of the short list; the files of replay and lift, by the published rules and the ties; reduce; solve; pair. Laws:
+-- proofs/Answers (`zero-tells`, `refusals-tell`), proofs/Claims (`met`, `replay-claim`, `lift-claim`, `reduce-claim`), proofs/Solved
+-- (`solve-claim`), proofs/Paired (`pair-claim`).
+use mathlib.Core.Path.{_≡_}
+use mathlib.Core.Logic.{_↔_}
+use mathlib.Core.Bool.{false}
+use mathlib.Core.List.{List, [], _∷_, map}
+use Prim.Native.Nat.{ℕ, _+_, _≤_, _<_}
+use lib.ListN.{length}
+use Rattle.matching.specs.Lists.{All, together}
+use Rattle.matching.specs.Pairs.{Pair}
+use Rattle.matching.specs.Pairing.{First}
+use Rattle.matching.specs.Listed.{Entry, Accepted, listed, points, shortList, filed}
+use Rattle.matching.specs.Graph.{cellsLeft}
+use Rattle.matching.specs.Steps.{Rule, Step}
+use Rattle.matching.specs.Ties.{Lifts}
+use Rattle.matching.specs.Published.{Rule23, AllPublished}
+use Rattle.matching.specs.Slip.{AreSteps, SomeStepNot, left, carries, InTurn}
+use Rattle.cellfile.specs.Files.{storeList, largest, cellsOf, stepsOf, pairsOf, carriedOf, asFields, writeFile}
+use Rattle.cellfile.specs.Refusals.{fewWords, badSlip, badPairing}
+use Rattle.cellfile.specs.Answers.{Answer}
+use Rattle.cellfile.specs.Weigh.{weighing}
+use Rattle.reduction.specs.Calls.{graphIn, asName, shortFile, slipFile, replayShort, replaying, reduceSteps, reducing}
+use Rattle.lifting.specs.Calls.{pairFile, solveFile, solving, liftFile, lifting, pairingFile, pairing}
+use Rattle.claims.specs.Demand.{AcceptedList, storeOf, shortOf, PairingOf, HeaviestOf, Names, Writes}
+use Rattle.claims.specs.Demand.{Allowed, Liftable}
+
+-- The slip and the short list that reduce writes.
+abbrev pub reduceSlip : List ℕ → List ℕ
+reduceSlip list = slipFile list (reduceSteps list)
+
+abbrev pub reduceShort : List ℕ → List ℕ
+reduceShort list = shortFile list (reduceSteps list)
+
+-- How many cells have pairs left in the short list that replay writes.
+abbrev pub leftCells : (list slip : List ℕ) → ℕ
+leftCells list slip = cellsLeft (cellsOf list) (listed (shortOf (replayShort list slip)))
+
+-- ---- what the answers 0, 8 and 11 tell
+
+-- A call answered the length i of a file: it had the buffers, and room for the file.
+pub record Wrote (file lent : List ℕ) (room i : ℕ) : Type 0 where
+  pub words : fewWords lent ≡ false
+  pub fits : length file ≤ room
+  pub value : i ≡ length file
+
+-- The answer 0: nothing was refused.
+pub record ZeroTells : Type 0 where
+  pub replays : (list slip lent : List ℕ) (room i : ℕ) → replaying list slip lent room ≡ (0, i ∷ [])
+      → Allowed list slip × Wrote (replayShort list slip) lent room i
+  pub lifts : (list slip pairing lent : List ℕ) (room i : ℕ) → lifting list slip pairing lent room ≡ (0, i ∷ [])
+      → Allowed list slip × Liftable list slip pairing × Wrote (liftFile list slip pairing) lent room i
+  pub weighs : (list pairing lent : List ℕ) (p : ℕ) → weighing list pairing lent ≡ (0, p ∷ [])
+      → AcceptedList list × (badPairing (cellsOf list) pairing ≡ false)
+      × PairingOf (storeOf list) (pairsOf pairing) × (p ≡ points (storeOf list) (pairsOf pairing))
+  pub reduces : (list lent : List ℕ) (slipRoom shortRoom i j : ℕ) → reducing list lent slipRoom shortRoom ≡ (0, i ∷ j ∷ [])
+      → AcceptedList list × Wrote (reduceSlip list) lent slipRoom i × Wrote (reduceShort list) lent shortRoom j
+  pub solves : (list slip lent : List ℕ) (room i : ℕ) → solving list slip lent room ≡ (0, i ∷ [])
+      → Allowed list slip × (leftCells list slip ≤ 12) × Wrote (solveFile list slip) lent room i
+  pub pairs : (list lent : List ℕ) (room i : ℕ) → pairing list lent room ≡ (0, i ∷ [])
+      → AcceptedList list × (leftCells list (reduceSlip list) ≤ 12) × Wrote (pairingFile list) lent room i
+
+-- 8 just where 'some step of the slip is not allowed where it stands', and nothing before it is refused.
+abbrev pub Eight : (list slip : List ℕ) → (List ℕ → ℕ → Answer) → Type 0
+Eight list slip call =
+    (lent : List ℕ) (room : ℕ) → (call lent room ≡ (8, []))
+    ↔ ((fewWords lent ≡ false) × AcceptedList list × (badSlip (cellsOf list) slip ≡ false)
+    × SomeStepNot (cellsOf list) (graphIn list) (map asName (stepsOf slip)))
+
+-- 11 just where 'more than 12 cells have pairs left', and nothing before it is refused.
+pub record RefusalsTell : Type 0 where
+  pub eight : (list slip : List ℕ) → Eight list slip (replaying list slip) × Eight list slip (solving list slip)
+      × ((pairing : List ℕ) → Eight list slip (lifting list slip pairing))
+  pub eleven-solve : (list slip lent : List ℕ) (room : ℕ) → (solving list slip lent room ≡ (11, []))
+      ↔ ((fewWords lent ≡ false) × Allowed list slip × (12 < leftCells list slip))
+  pub eleven-pair : (list lent : List ℕ) (room : ℕ) → (pairing list lent room ≡ (11, []))
+      ↔ ((fewWords lent ≡ false) × AcceptedList list × (12 < leftCells list (reduceSlip list)))
+
+-- ---- the hypotheses are met
+
+-- A list of n cells in the format's words: 'a < b < n, entries strictly ascending by (a, b). n is 0 to 1,024, m is 0 to
+-- 4,096', points of 20 bits. Its file is accepted and read as it.
+pub record WellFormed (n : ℕ) (es : List Entry) : Type 0 where
+  pub cells : n ≤ 1024
+  pub count : length es ≤ 4096
+  pub ascends : Accepted n es
+  pub small : All (λ (e : Entry). e .2 ≤ largest storeList) es
+
+abbrev pub listFile : ℕ → List Entry → List ℕ
+listFile n es = writeFile storeList (record { cells = n; extra = []; entries = map asFields es })
+
+pub record ListClaim (n : ℕ) (es : List Entry) : Type 0 where
+  pub accepted : AcceptedList (listFile n es)
+  pub cells : cellsOf (listFile n es) ≡ n
+  pub entries : storeOf (listFile n es) ≡ es
+
+-- Steps written as a slip, of at most 2,052 bytes: the slip is allowed and names them, and replay takes it.
+pub record SlipClaim (list : List ℕ) (ss : List Step) : Type 0 where
+  pub allowed : Allowed list (slipFile list ss)
+  pub names : Names list (slipFile list ss) ss
+  pub replays : Writes (replaying list (slipFile list ss)) (replayShort list (slipFile list ss))
+  pub longest : length (slipFile list ss) ≤ 2052
+
+-- Pairs written as a pairing, of at most 1,540 bytes: they are read in file order, and lift takes them.
+pub record PairingClaim (list slip : List ℕ) (m : List Pair) : Type 0 where
+  pub liftable : Liftable list slip (pairFile (cellsOf list) m)
+  pub pairs : pairsOf (pairFile (cellsOf list) m) ≡ filed m
+  pub lifts : Writes (lifting list slip (pairFile (cellsOf list) m)) (liftFile list slip (pairFile (cellsOf list) m))
+  pub longest : length (pairFile (cellsOf list) m) ≤ 1540
+
+-- There is one for every list that is well-formed, every sequence of steps that are allowed, each where it stands, and
+-- every pairing of the short list. So no hypothesis is empty: no step at all, and the empty pairing, always serve.
+pub record Met : Type 0 where
+  pub lists : (n : ℕ) (es : List Entry) → WellFormed n es → ListClaim n es
+  pub slips : (list : List ℕ) → AcceptedList list → (rs : List (Rule × ℕ)) (ss : List Step)
+      → AreSteps (cellsOf list) (graphIn list) rs ss → SlipClaim list ss
+  pub pairings : (list slip : List ℕ) → Allowed list slip → (m : List Pair)
+      → PairingOf (shortOf (replayShort list slip)) m → PairingClaim list slip m
+  pub no-step : (list : List ℕ) → AcceptedList list → SlipClaim list []
+  pub no-pair : (list slip : List ℕ) → Allowed list slip → PairingClaim list slip []
+
+-- ---- replay and lift
+
+-- What replay writes, at most 32,780 bytes, by the steps of the slip: 'the pairs left after the last step, with their points
+-- there', and 'the sum of what the slip's steps carry'; the graph that the first step stands on and each step are by the
+-- published rules.
+pub record ReplayClaim (list slip : List ℕ) (ss : List Step) : Type 0 where
+  pub cells : cellsOf (replayShort list slip) ≡ cellsOf list
+  pub entries : shortOf (replayShort list slip) ≡ shortList (cellsOf list) (left (graphIn list) ss)
+  pub carried : carriedOf (replayShort list slip) ≡ together (carries (graphIn list) ss)
+  pub zero-pairs : Rule23 (storeOf list) (graphIn list)
+  pub rules : AllPublished (cellsOf list) (graphIn list) ss
+  pub longest : length (replayShort list slip) ≤ 32780
+
+-- What lift writes, at most 1,540 bytes: what the way back makes of the short pairing, by the best of each chain and ring.
+-- Weigh answers its points.
+pub record LiftClaim (list slip pairing : List ℕ) (ss : List Step) : Type 0 where
+  pub back : (up : List Pair) × Lifts (graphIn list) ss (pairsOf pairing) up × (pairsOf (liftFile list slip pairing) ≡ filed up)
+  pub weighs : (lent : List ℕ) → fewWords lent ≡ false → weighing list (liftFile list slip pairing) lent
+      ≡ (0, (points (shortOf (replayShort list slip)) (pairsOf pairing) + carriedOf (replayShort list slip)) ∷ [])
+  pub longest : length (liftFile list slip pairing) ≤ 1540
+
+-- ---- reduce
+
+-- The slip that reduce writes, at most 2,052 bytes, is allowed and names its steps, each the first that is allowed where it
+-- stands, and none after them; replay of that slip writes the short list that reduce writes.
+pub record ReduceClaim (list : List ℕ) : Type 0 where
+  pub writes : (lent : List ℕ) (slipRoom shortRoom : ℕ) → fewWords lent ≡ false → length (reduceSlip list) ≤ slipRoom
+      → length (reduceShort list) ≤ shortRoom
+      → reducing list lent slipRoom shortRoom ≡ (0, length (reduceSlip list) ∷ length (reduceShort list) ∷ [])
+  pub allowed : Allowed list (reduceSlip list)
+  pub names : Names list (reduceSlip list) (reduceSteps list)
+  pub in-turn : InTurn (cellsOf list) (graphIn list) (reduceSteps list)
+  pub replays : replayShort list (reduceSlip list) ≡ reduceShort list
+  pub longest : length (reduceSlip list) ≤ 2052
+
+-- ---- solve
+
+-- What solve writes where at most 12 cells have pairs left, at most 1,540 bytes: a heaviest pairing of the short list, and
+-- of those the first by partners; lift takes it.
+pub record SolveClaim (list slip : List ℕ) : Type 0 where
+  pub writes : leftCells list slip ≤ 12 → Writes (solving list slip) (solveFile list slip)
+  pub liftable : Liftable list slip (solveFile list slip)
+  pub heaviest : HeaviestOf (shortOf (replayShort list slip)) (pairsOf (solveFile list slip))
+  pub foremost : (m : List Pair) → HeaviestOf (shortOf (replayShort list slip)) m
+      → First (pairsOf (solveFile list slip)) m
+  pub longest : length (solveFile list slip) ≤ 1540
+
+-- ---- pair
+
+-- What pair writes where at most 12 cells have pairs left after reduce: what lift makes, with the slip that reduce writes, of
+-- the pairing that solve writes with that slip, so with the ties of both. It is a heaviest pairing of the store, and weigh
+-- answers the points of solve's pairing in the short list plus the carried points.
+pub record PairClaim (list : List ℕ) : Type 0 where
+  pub writes : leftCells list (reduceSlip list) ≤ 12 → Writes (pairing list) (pairingFile list)
+  pub composed : pairingFile list ≡ liftFile list (reduceSlip list) (solveFile list (reduceSlip list))
+  pub reduced : ReduceClaim list
+  pub solved : SolveClaim list (reduceSlip list)
+  pub lifted : LiftClaim list (reduceSlip list) (solveFile list (reduceSlip list)) (reduceSteps list)
+  pub heaviest : HeaviestOf (storeOf list) (pairsOf (pairingFile list))
+  pub weighs : (lent : List ℕ) → fewWords lent ≡ false → weighing list (pairingFile list) lent
+      ≡ (
+        0,
+        (points (shortOf (reduceShort list)) (pairsOf (solveFile list (reduceSlip list)))
+            + carriedOf (reduceShort list)) ∷ [],
+      )
+  pub longest : length (pairingFile list) ≤ 1540

@@ -1,2 +1,0 @@
--- The laws of the sceptic's question.
-pub mod Telling
