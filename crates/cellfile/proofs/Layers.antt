@@ -1,8 +1,8 @@
 -- A call checks its inputs one after the other, each by a function that answers the first of that input's rows. These
 -- laws put the answers together: what is refused by some rows is refused by them and any rows after them, and where
--- they refuse nothing the rows after them decide. At the end: the answer to a whole call's rows is 0 and the values just
--- where none of them holds (`call-passes`, `call-sound`), and a refusal's number just where its row is the first that holds
--- (`call-refused`).
+-- they refuse nothing the rows after them decide. At the end: the answer to a whole call's rows is 0 and the values
+-- just where none of them holds (`call-passes`, `call-sound`), and a refusal's number just where its row is the first
+-- that holds (`call-refused`).
 use Prim.Native.Nat.{ℕ, zero, suc, _<_}
 use mathlib.Core.Path.{_≡_, refl, sym, ap, _∙_}
 use mathlib.Core.Logic.{_≢_, _↔_}
@@ -146,6 +146,10 @@ call-refused list lent rows more k t values h p q = (to, from)
     before : List Row
     before = (1, fewWords lent) ∷ (listRows storeList list ++ rows)
 
+    others : All (λ (r : Row). r .0 ≢ k) (listRows storeList list)
+    others =
+        ((λ e. omega arith), ((λ e. omega arith), ((λ e. omega arith), ((λ e. omega arith), ((λ e. omega arith), tt)))))
+
     number : (answer (first (before ++ (k, t) ∷ more)) values ≡ (k, [])) ↔ (first (before ++ (k, t) ∷ more) ≡ k)
     number = answer-number (first (before ++ (k, t) ∷ more)) k values (omega arith)
 
@@ -158,8 +162,7 @@ call-refused list lent rows more k t values h p q = (to, from)
     to e =
         let a =
         first-at before more k t (omega arith)
-        ((λ e. omega arith), ((λ e. omega arith), ((λ e. omega arith), ((λ e. omega arith), ((λ e. omega arith), ((λ e. omega arith), p))))))
-        q (number .0 e) in
+        ((λ e. omega arith), all-append (λ (r : Row). r .0 ≢ k) (listRows storeList list) rows others p) q (number .0 e) in
         let b = rows-apart (listRows storeList list) rows (a .0 .1) in
         (a .0 .0, b .0, b .1, a .1)
 

@@ -1,8 +1,9 @@
--- What is written is not refused. In order: the header of a file that fits is read again (`header-read`), and the entries
--- (`entries-read`); where nothing stands between the header and the entries, refusals 7 and 9 find no fault in the header
--- (`headed`); a well-formed list passes 2 to 6 (`list-passes`) and is read again (`list-cells`, `list-written`); a slip of
--- steps that have a rule passes 7 (`slip-passes`), and its steps are read again (`steps-read`); pairs of n cells in file
--- order, as a pairing, pass 9 (`pairing-passes`) and are read again (`pairs-read`). Assumes nothing.
+-- What is written is not refused. In order: the header of a file that fits is read again (`header-read`), and the
+-- entries (`entries-read`); where nothing stands between the header and the entries, refusals 7 and 9 find no fault in
+-- the header (`headed`); a well-formed list passes 2 to 6 (`list-passes`) and is read again (`list-cells`,
+-- `list-written`); a slip of steps that have a rule passes 7 (`slip-passes`), and its steps are read again
+-- (`steps-read`); pairs of n cells in file order, as a pairing, pass 9 (`pairing-passes`) and are read again
+-- (`pairs-read`). Assumes nothing.
 use Prim.Native.Nat.{ℕ, suc, _+_, _*_, _≤_, _<_}
 use mathlib.Core.Path.{_≡_, refl, ap, _∙_}
 use mathlib.Core.Logic.{inl, inr}

@@ -1,8 +1,8 @@
--- What the answers tell. In order: the answer 0, by call (`zero-tells`); 8 and 11, each just where its condition is the first
--- that holds (`refusals-tell`). Assumes nothing.
+-- What the answers tell. In order: the answer 0, by call (`zero-tells`); 8 and 11, each just where its condition is the
+-- first that holds (`refusals-tell`). Assumes nothing.
 use mathlib.Core.Path.{_≡_, refl, sym, ap, subst, _∙_}
 use mathlib.Core.Logic.{_↔_, _≢_}
-use mathlib.Core.Bool.{Bool, true, false, not, false≢true, true≢false}
+use mathlib.Core.Bool.{true, false, not, false≢true, true≢false}
 use mathlib.Core.List.{List, [], _∷_, _++_, map}
 use mathlib.Core.Option.{Option, some, none}
 use Prim.Native.Nat.{ℕ, _≤_, _<_}

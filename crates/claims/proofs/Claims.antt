@@ -1,6 +1,7 @@
--- The hypotheses of demand 3 are met (`met`): by a well-formed list, by steps that are allowed and by pairings of the short
--- list, each written. What replay, lift and reduce write (`replay-claim`, `lift-claim`, `reduce-claim`). Assumes nothing.
-use mathlib.Core.Path.{_≡_, sym, ap, subst, _∙_}
+-- The hypotheses of demand 3 are met (`met`): by a well-formed list, by steps that are allowed and by pairings of the
+-- short list, each written. What replay, lift and reduce write (`replay-claim`, `lift-claim`, `reduce-claim`). Assumes
+-- nothing.
+use mathlib.Core.Path.{_≡_, ap, _∙_}
 use mathlib.Core.Bool.{false, not}
 use mathlib.Core.List.{List, [], _∷_, map}
 use Prim.Native.Nat.{ℕ, _+_, _≤_, _<_}
@@ -17,23 +18,22 @@ use Rattle.matching.proofs.Pairing.{pairing-is}
 use Rattle.matching.proofs.Published.{weightless, slip-published}
 use Rattle.matching.proofs.Reduce.{replay-is, carried-sum, reduce-in-turn}
 use Rattle.matching.proofs.Ways.{slip-lifts}
-use Rattle.cellfile.specs.Files.{cellsOf, pairsOf, carriedOf}
+use Rattle.cellfile.specs.Files.{cellsOf, pairsOf}
 use Rattle.cellfile.specs.Refusals.{fewWords, badPairing, shortOutput}
-use Rattle.cellfile.specs.Weigh.{weighing}
 use Rattle.cellfile.proofs.Layers.{call-passes}
 use Rattle.cellfile.proofs.Weights.{weigh-passes}
 use Rattle.cellfile.proofs.Written.{list-passes, list-cells, list-written}
-use Rattle.reduction.specs.Calls.{graphIn, replayShort, shortFile, reduceSteps, reducing}
+use Rattle.reduction.specs.Calls.{graphIn, replayShort, reduceSteps, reducing}
 use Rattle.reduction.proofs.Loading.{list-accepted}
 use Rattle.reduction.proofs.Courses.{list-graph}
 use Rattle.reduction.proofs.Reducing.{reduce-allowed}
 use Rattle.lifting.specs.Calls.{pairFile, liftFile}
 use Rattle.lifting.proofs.Filing.{file-read, file-pairing, file-formed, file-longest, all-entries}
-use Rattle.claims.specs.Demand.{AcceptedList, storeOf, shortOf, PairingOf, Names, Allowed, Liftable}
+use Rattle.claims.specs.Demand.{AcceptedList, storeOf, shortOf, PairingOf, Allowed, Liftable}
 use Rattle.claims.specs.Claims.{WellFormed, ListClaim, SlipClaim, PairingClaim, Met, ReplayClaim, LiftClaim}
 use Rattle.claims.specs.Claims.{reduceSlip, reduceShort, ReduceClaim}
-use Rattle.claims.proofs.Slips.{slip-names, slip-allowed, slip-longest, rs, same-file, short-is, carried-is}
-use Rattle.claims.proofs.Slips.{cells-are, replay-longest, short-entries-graph, pairing-after}
+use Rattle.claims.proofs.Slips.{slip-names, slip-allowed, slip-longest, short-longest, rs, same-file}
+use Rattle.claims.proofs.Slips.{short-is, carried-is, cells-are, replay-longest, short-entries-graph, pairing-after}
 use Rattle.claims.proofs.Demand.{reduceRows, same-lifted, store-pairing, lifted-is, demand-three}
 
 -- ---- the hypotheses are met
@@ -141,5 +141,8 @@ reduce-claim list h =
       names = slip-names list h (map name ss) ss (reduce-allowed list h);
       in-turn = reduce-in-turn (list-graph list h);
       replays = same-file list (reduceSlip list) a;
-      longest = slip-longest list h (map name ss) ss (reduce-allowed list h);
+      longest = (
+        slip-longest list h (map name ss) ss (reduce-allowed list h),
+        short-longest list h (map name ss) ss (reduce-allowed list h),
+      );
     }

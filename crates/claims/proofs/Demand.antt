@@ -8,7 +8,7 @@ use native.Mathlib.Omega.{arith}
 use lib.ListN.{length, length-map}
 use borrow.Author.Tests.{le-ltb}
 use Rattle.matching.specs.Pairs.{Pair, Points, sum}
-use Rattle.matching.specs.Pairing.{Pairing, isPairing}
+use Rattle.matching.specs.Pairing.{Pairing}
 use Rattle.matching.specs.Listed.{points, filed}
 use Rattle.matching.specs.Demand.{NoGainNoLoss}
 use Rattle.matching.specs.Slip.{left, lift}
@@ -19,7 +19,6 @@ use Rattle.cellfile.specs.Files.{cellsOf, stepsOf, pairsOf}
 use Rattle.cellfile.specs.Refusals.{Row, badPairing, noPairing, shortOutput}
 use Rattle.cellfile.proofs.Layers.{call-passes}
 use Rattle.reduction.specs.Calls.{graphIn, asName, stand, replayShort, replaying}
-use Rattle.reduction.specs.Writing.{slipRow, standRow}
 use Rattle.reduction.proofs.Loading.{list-accepted}
 use Rattle.reduction.proofs.Courses.{list-graph}
 use Rattle.lifting.specs.Calls.{graphAfter, liftedFile, bySteps, slipRows, liftFile, lifting, solution}

@@ -12,7 +12,7 @@ use Rattle.cellfile.specs.Files.{cellsOf, pairsOf, carriedOf}
 use Rattle.cellfile.specs.Refusals.{Row, crowded}
 use Rattle.cellfile.specs.Weigh.{weighing}
 use Rattle.cellfile.proofs.Layers.{call-passes}
-use Rattle.reduction.specs.Calls.{replayShort, reduceSteps}
+use Rattle.reduction.specs.Calls.{reduceSteps}
 use Rattle.reduction.proofs.Reducing.{reduce-allowed}
 use Rattle.lifting.specs.Calls.{graphAfter, liftedFile, solveFile, liftFile, pairingFile, pairing}
 use Rattle.claims.specs.Demand.{AcceptedList, storeOf, shortOf, HeaviestOf, Writes, Allowed, Liftable}

@@ -1,10 +1,10 @@
--- What replay and reduce write, read again. In order: by steps that are allowed, the short list is the pairs left with their
--- points, and the carried points (`short-read`, `carried-read`); the slip passes refusal 7 (`slip-formed`) and names the
--- steps (`slip-names`); how long both are at most; a slip that is allowed, by the steps that it names: what is written and
--- asked goes by them (`by-steps`), and its short list, as pairs, is the graph left. Assumes nothing.
+-- What replay and reduce write, read again. In order: by steps that are allowed, the short list is the pairs left with
+-- their points, and the carried points (`short-read`, `carried-read`); the slip passes refusal 7 (`slip-formed`) and
+-- names the steps (`slip-names`); how long both are at most; a slip that is allowed, by the steps that it names: what
+-- is written and asked goes by them (`by-steps`), and its short list, as pairs, is the graph left. Assumes nothing.
 use mathlib.Core.Path.{_≡_, refl, sym, ap, ap₂, subst, _∙_}
 use mathlib.Core.Logic.{_↔_}
-use mathlib.Core.Bool.{true, false}
+use mathlib.Core.Bool.{false}
 use mathlib.Core.List.{List, [], _∷_, map}
 use mathlib.Core.Option.{Option, some, none}
 use Prim.Native.Nat.{ℕ, _+_, _≤_, _<_}
@@ -26,7 +26,7 @@ use Rattle.matching.proofs.Demand.{short-fewer}
 use Rattle.cellfile.specs.Files.{File, storeList, shortList as shortLayout, slip as slipLayout, cellsOf, entriesOf}
 use Rattle.cellfile.specs.Files.{asFields, asPair, stepsOf, carriedOf}
 use Rattle.cellfile.specs.Fits.{FitsFields, FitsFile}
-use Rattle.cellfile.specs.Refusals.{first, listRows, noRule, badSlip}
+use Rattle.cellfile.specs.Refusals.{noRule, badSlip}
 use Rattle.cellfile.proofs.All.{all-values}
 use Rattle.cellfile.proofs.RoundTrip.{read-write, length-file}
 use Rattle.cellfile.proofs.Written.{cells-read, entries-written, steps-read, slip-passes}
@@ -116,7 +116,7 @@ module _ (list : List ℕ) (h : AcceptedList list) (rs : List (Rule × ℕ)) (ss
   short-cells : cellsOf (shortFile list ss) ≡ cellsOf list
   short-cells = cells-read shortLayout short-of short-fits
 
-  short-longest : length (shortFile list ss) ≤ 32780
+  pub short-longest : length (shortFile list ss) ≤ 32780
   short-longest = omega (arith, length-file shortLayout short-of, length-map short asFields, short-few)
 
   abbrev slip-of : File

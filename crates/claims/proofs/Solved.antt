@@ -1,5 +1,5 @@
--- Solve: `solve-claim`. In order: what a slip that is allowed leaves is counted (`same-count`) and solved (`solve-read`); the
--- claim. Assumes nothing.
+-- Solve: `solve-claim`. In order: what a slip that is allowed leaves is counted (`same-count`) and solved
+-- (`solve-read`); the claim. Assumes nothing.
 use mathlib.Core.Path.{_≡_, sym, ap, subst, _∙_}
 use mathlib.Core.Bool.{not}
 use mathlib.Core.List.{List, [], _∷_, _++_}

@@ -1,6 +1,7 @@
--- Where replay, lift and weigh answer, demand 3 holds of what they answered and wrote (`told`). In order: a file read again
--- from its output, and buffers cleared twice; what lift wrote; demand 3; what the three answer one after the other
--- (`asking-refused`, `asking-lift-refused`, `asking-weighs`) and write (`lifted-stays`, `lifted-written`). Assumes nothing.
+-- `ask` by what its three calls did. In order: a file read again from its output, and buffers cleared twice; what `ask`
+-- is given, what each call did with it and what `ask` promises (`Given`, `ReplayDid`, `LiftDid`, `WeighDid`, `Promised`);
+-- where replay, lift or weigh refuses (`replay-refused`, `lift-refused`, `weigh-refused`); where all three answer,
+-- demand 3 holds of what they answered and wrote (`all-answered`, by `told`). Assumes nothing.
 use mathlib.Core.Path.{_≡_, refl, sym, ap, ap₂, subst, _∙_}
 use mathlib.Core.List.{List, [], _∷_, _++_}
 use Prim.Native.Nat.{ℕ, zero, suc, _≤_, _<_}
@@ -16,7 +17,9 @@ use Rattle.reduction.specs.Calls.{written, replayShort, replaying}
 use Rattle.lifting.specs.Calls.{lifting, liftFile}
 use Rattle.claims.specs.Demand.{Allowed, Liftable}
 use Rattle.claims.specs.Claims.{Wrote}
-use Rattle.claims.specs.Asking.{andThen, lifts as liftsAfter, asking, Told}
+use Rattle.claims.specs.Asking.{asked, andThen, lifts as liftsAfter, asking, Told, Tells}
+use Rattle.claims.specs.declared.Asked.{Asked}
+use Rattle.claims.specs.declared.Asked.the-variants.{Refused, Answered}
 use Rattle.claims.proofs.Demand.{replayRows, demand-three}
 use Rattle.claims.proofs.Answers.{zero-tells}
 
@@ -25,132 +28,215 @@ file-again : (file out : List ℕ) (k : ℕ) → k ≡ length file → take k (o
 unfolding onto
 file-again file out k e = ap (λ n. take n (onto file out)) e ∙ take-append-seam file (drop (length file) out)
 
--- The buffers that a call leaves are as long as they were.
-pub lent-again : (a b a′ b′ : List ℕ) → Cleared a a′ → Cleared b b′ → lent a′ b′ ≡ lent a b
-lent-again a b a′ b′ p q =
-    ap₂ (λ (x y : ℕ). x ∷ y ∷ [])
-    (ap length p ∙ length-replicate (length a) 0) (ap length q ∙ length-replicate (length b) 0)
+-- Two buffers that a call clears: they are as long as they were, and what two calls clear one after the other is clear.
+abbrev Clears : (a b a′ b′ : List ℕ) → Type 0
+Clears a b a′ b′ = Cleared a a′ × Cleared b b′
 
--- What two calls clear one after the other is clear.
-pub clear-again : (a b : List ℕ) {a′ b′ a″ b″ : List ℕ} → Cleared a a′ × Cleared b b′ → Cleared a′ a″ × Cleared b′ b″
-    → Cleared a a″ × Cleared b b″
-clear-again a b {a′} {b′} p q = (
-  q .0 ∙ ap zeros (ap length (p .0) ∙ length-replicate (length a) 0),
-  q .1 ∙ ap zeros (ap length (p .1) ∙ length-replicate (length b) 0),
+lent-again : (a b : List ℕ) {a′ b′ : List ℕ} → Clears a b a′ b′ → lent a′ b′ ≡ lent a b
+lent-again a b c =
+    ap₂ (λ (x y : ℕ). x ∷ y ∷ [])
+    (ap length (c .0) ∙ length-replicate (length a) 0) (ap length (c .1) ∙ length-replicate (length b) 0)
+
+clear-again : (a b : List ℕ) {a′ b′ a″ b″ : List ℕ} → Clears a b a′ b′ → Clears a′ b′ a″ b″ → Clears a b a″ b″
+clear-again a b c d = (
+  d .0 ∙ ap zeros (ap length (c .0) ∙ length-replicate (length a) 0),
+  d .1 ∙ ap zeros (ap length (c .1) ∙ length-replicate (length b) 0),
 )
 
--- Of what the function is given: the list, slip and pairing, the work buffers and the outputs.
-module _ (list slip pairing a b shortOut liftedOut : List ℕ) where
+-- ---- what `ask` is given, and what its calls did
+
+pub record Given : Type 0 where
+  pub list : List ℕ
+  pub slip : List ℕ
+  pub pairing : List ℕ
+  pub a : List ℕ
+  pub b : List ℕ
+  pub short : List ℕ
+  pub lifted : List ℕ
+
+module _ (g : Given) where
+  abbrev words : List ℕ
+  words = lent (g .a) (g .b)
+
+  abbrev short-file : List ℕ
+  short-file = replayShort (g .list) (g .slip)
+
+  abbrev lift-file : List ℕ
+  lift-file = liftFile (g .list) (g .slip) (g .pairing)
+
+  -- Replay answered x; then lift, with the buffers that replay left; then weigh of the first j bytes that lift wrote.
+  abbrev pub ReplayDid : (x : Answer) (short′ a′ b′ : List ℕ) → Type 0
+  ReplayDid x short′ a′ b′ =
+      (x ≡ replaying (g .list) (g .slip) (lent (g .a) (g .b)) (length (g .short)))
+      × ((short′ ≡ written (x .0) (replayShort (g .list) (g .slip)) (g .short))
+      × (Cleared (g .a) a′ × Cleared (g .b) b′))
+
+  abbrev pub LiftDid : (a′ b′ : List ℕ) (x : Answer) (lifted′ a″ b″ : List ℕ) → Type 0
+  LiftDid a′ b′ x lifted′ a″ b″ =
+      (x ≡ lifting (g .list) (g .slip) (g .pairing) (lent a′ b′) (length (g .lifted)))
+      × ((lifted′ ≡ written (x .0) (liftFile (g .list) (g .slip) (g .pairing)) (g .lifted))
+      × (Cleared a′ a″ × Cleared b′ b″))
+
+  abbrev pub WeighDid : (lifted′ a″ b″ : List ℕ) (j : ℕ) (x : Answer) (a‴ b‴ : List ℕ) → Type 0
+  WeighDid lifted′ a″ b″ j x a‴ b‴ =
+      (x ≡ weighing (g .list) (take j lifted′) (lent a″ b″)) × (Cleared a″ a‴ × Cleared b″ b‴)
+
+  -- What `ask` promises of its answer, its outputs and the work buffers.
+  abbrev pub Promised : Asked → (short′ lifted′ a′ b′ : List ℕ) → Type 0
+  Promised r short′ lifted′ a′ b′ =
+      (asked r ≡ asking (g .list) (g .slip) (g .pairing) (lent (g .a) (g .b)) (length (g .short)) (length (g .lifted)))
+      × (((short′ ≡ written (replaying (g .list) (g .slip) (lent (g .a) (g .b)) (length (g .short)) .0)
+      (replayShort (g .list) (g .slip)) (g .short))
+      × (lifted′ ≡ written (liftsAfter (g .list) (g .slip) (g .pairing) (lent (g .a) (g .b)) (length (g .short))
+      (length (g .lifted)) .0) (liftFile (g .list) (g .slip) (g .pairing)) (g .lifted)))
+      × (Tells (g .list) (g .slip) (g .pairing) short′ lifted′ r
+      × (Cleared (g .a) a′ × Cleared (g .b) b′)))
+
   abbrev replays : Answer
-  replays = replaying list slip (lent a b) (length shortOut)
+  replays = replaying (g .list) (g .slip) words (length (g .short))
 
   abbrev lifts : Answer
-  lifts = lifting list slip pairing (lent a b) (length liftedOut)
-
-  abbrev whole : Answer
-  whole = asking list slip pairing (lent a b) (length shortOut) (length liftedOut)
-
-  -- lift is lent the buffers that replay cleared
-  pub lifts-here : {a′ b′ : List ℕ} {x : Answer} → Cleared a a′ × Cleared b b′
-      → x ≡ lifting list slip pairing (lent a′ b′) (length liftedOut) → lifts ≡ x
-  lifts-here {a′} {b′} {x} p e =
-      ap (λ (l : List ℕ). lifting list slip pairing l (length liftedOut)) (sym (lent-again a b a′ b′ (p .0) (p .1)))
-      ∙ sym e
-
-  -- ---- what was lifted
-
-  module _ {j : ℕ} (l : lifts ≡ (0, j ∷ [])) where
-    lift-zero : Allowed list slip × Liftable list slip pairing
-        × Wrote (liftFile list slip pairing) (lent a b) (length liftedOut) j
-    lift-zero = zero-tells .lifts list slip pairing (lent a b) (length liftedOut) j l
-
-    pub lift-room : j ≤ length liftedOut
-    lift-room = let w = lift-zero .2 in omega (arith, w .fits, w .value)
-
-    pub lifted-again : {lifted : List ℕ} → lifted ≡ onto (liftFile list slip pairing) liftedOut
-        → take j lifted ≡ liftFile list slip pairing
-    lifted-again t = ap (take j) t ∙ file-again (liftFile list slip pairing) liftedOut j (lift-zero .2 .value)
-
-  -- ---- demand 3
-
-  pub told : {i j p : ℕ} {short lifted : List ℕ} → replays ≡ (0, i ∷ [])
-      → short ≡ onto (replayShort list slip) shortOut → lifts ≡ (0, j ∷ [])
-      → lifted ≡ onto (liftFile list slip pairing) liftedOut → (lent′ : List ℕ)
-      → weighing list (take j lifted) lent′ ≡ (0, p ∷ []) → Told list slip pairing (take i short) (take j lifted) p
-  told {i} {j} {p} {short} {lifted} r s l t lent′ v =
-      subst (λ (f : List ℕ). Told list slip pairing f (take j lifted) p) (sym short-is)
-      (subst (λ (f : List ℕ). Told list slip pairing (replayShort list slip) f p) (sym lifted-is) kept)
-    where
-      short-is : take i short ≡ replayShort list slip
-      short-is =
-          ap (take i) s
-          ∙ file-again (replayShort list slip) shortOut i
-          (zero-tells .replays list slip (lent a b) (length shortOut) i r .1 .value)
-
-      lifted-is : take j lifted ≡ liftFile list slip pairing
-      lifted-is = lifted-again l t
-
-      kept : Told list slip pairing (replayShort list slip) (liftFile list slip pairing) p
-      kept =
-          let h = lift-zero l in
-          let d = demand-three list slip (h .0) in
-          let keeps = d .2 pairing (h .1) .1 in
-          record {
-            exactly =
-                zero-tells .weighs list (liftFile list slip pairing) lent′ p
-                (ap (λ (f : List ℕ). weighing list f lent′) (sym lifted-is) ∙ v) .3
-                ∙ keeps .exact;
-            shortened = d .1;
-            lifts = keeps;
-          }
-
-  -- ---- what is answered, by the calls' answers
+  lifts = lifting (g .list) (g .slip) (g .pairing) words (length (g .lifted))
 
   abbrev ended : List ℕ → List ℕ → Answer → Answer
   ended i j x = andThen x (λ p. (0, i ++ j ++ p))
 
   abbrev onward : List ℕ → Answer → Answer
-  onward i x = andThen x (λ j. ended i j (weighing list (liftFile list slip pairing) (lent a b)))
-
-  pub asking-refused : {k : ℕ} → replays ≡ (k, []) → (k, []) ≡ whole
-  asking-refused r = sym (ap (λ (x : Answer). andThen x (λ i. onward i lifts)) r)
-
-  module _ {i : ℕ} (r : replays ≡ (0, i ∷ [])) where
-    lift-next : whole ≡ onward (i ∷ []) lifts
-    lift-next = ap (λ (x : Answer). andThen x (λ i. onward i lifts)) r
-
-    pub asking-lift-refused : {k : ℕ} → lifts ≡ (k, []) → (k, []) ≡ whole
-    asking-lift-refused l = sym (lift-next ∙ ap (onward (i ∷ [])) l)
-
-    module _ {j : ℕ} (l : lifts ≡ (0, j ∷ [])) where
-      pub asking-weighs : {file lent′ : List ℕ} {x : Answer} → file ≡ liftFile list slip pairing → lent′ ≡ lent a b
-          → x ≡ weighing list file lent′ → ended (i ∷ []) (j ∷ []) x ≡ whole
-      asking-weighs e f h =
-          ap (ended (i ∷ []) (j ∷ [])) h
-          ∙ ap₂ (λ (x y : List ℕ). ended (i ∷ []) (j ∷ []) (weighing list x y)) e f
-          ∙ sym (lift-next ∙ ap (onward (i ∷ [])) l)
-
-  -- ---- what is written
-
-  abbrev second : Answer
-  second = liftsAfter list slip pairing (lent a b) (length shortOut) (length liftedOut)
+  onward i x = andThen x (λ j. ended i j (weighing (g .list) lift-file words))
 
   abbrev after-lift : ℕ → List ℕ
-  after-lift k = written k (liftFile list slip pairing) liftedOut
+  after-lift k = written k lift-file (g .lifted)
 
-  -- where replay refuses, lift's output stays
-  pub lifted-stays : {k : ℕ} → (k, []) ≡ replays → liftedOut ≡ after-lift (second .0)
-  lifted-stays {k} r =
-      go k (let q = answer-refused (first (callRows list (lent a b) (replayRows list slip (length shortOut)))) k
-      (length (replayShort list slip)) [] r in omega (arith, q .0, q .1))
-      ∙ ap (λ (x : Answer). after-lift (andThen x (λ i. lifts) .0)) r
+  short-out : {x : Answer} {short′ a′ b′ : List ℕ} → ReplayDid x short′ a′ b′
+      → short′ ≡ written (replays .0) short-file (g .short)
+  short-out r = r .1 .0 ∙ ap (λ (y : Answer). written (y .0) short-file (g .short)) (r .0)
+
+  -- ---- replay refuses
+
+  refused-first : {k : ℕ} {short′ a′ b′ : List ℕ} → ReplayDid (k, []) short′ a′ b′
+      → Promised (Refused k) short′ (g .lifted) a′ b′
+  refused-first {k} r = (
+    ap (λ (x : Answer). andThen x (λ i. onward i lifts)) (r .0),
+    (
+      (short-out r, stays k positive ∙ ap (λ (x : Answer). after-lift (andThen x (λ i. lifts) .0)) (r .0)),
+      (tt, r .1 .1),
+    ),
+  )
     where
-      go : (k : ℕ) → 0 < k → liftedOut ≡ after-lift k
-      go zero h = (let z : ⊥ = omega arith in absurd z)
-      go (suc k) h = refl
+      positive : 0 < k
+      positive =
+          let q =
+          answer-refused (first (callRows (g .list) words (replayRows (g .list) (g .slip) (length (g .short))))) k
+          (length short-file) [] (r .0) in omega (arith, q .0, q .1)
 
-  pub lifted-written : {i : ℕ} {x : Answer} {lifted : List ℕ} → replays ≡ (0, i ∷ []) → lifts ≡ x
-      → lifted ≡ after-lift (x .0) → lifted ≡ after-lift (second .0)
-  lifted-written r l e =
-      e ∙ sym (ap (λ (x : Answer). after-lift (x .0)) l)
-      ∙ sym (ap (λ (x : Answer). after-lift (andThen x (λ i. lifts) .0)) r)
+      stays : (k : ℕ) → 0 < k → g .lifted ≡ after-lift k
+      stays zero h = (let z : ⊥ = omega arith in absurd z)
+      stays (suc k) h = refl
+
+  pub replay-refused : {x : Answer} {k : ℕ} {short′ a′ b′ : List ℕ} → x ≡ (k, []) → ReplayDid x short′ a′ b′
+      → Promised (Refused k) short′ (g .lifted) a′ b′
+  replay-refused {short′ = short′} {a′} {b′} e r = refused-first (subst (λ y. ReplayDid y short′ a′ b′) e r)
+
+  -- ---- replay answers i
+
+  module _ {x : Answer} {i : ℕ} {short′ a′ b′ : List ℕ} (e : x ≡ (0, i ∷ [])) (did : ReplayDid x short′ a′ b′) where
+    abbrev r : ReplayDid (0, i ∷ []) short′ a′ b′
+    r = subst (λ y. ReplayDid y short′ a′ b′) e did
+
+    -- lift is lent the buffers that replay cleared
+    lifts-here : {x : Answer} {lifted′ a″ b″ : List ℕ} → LiftDid a′ b′ x lifted′ a″ b″ → lifts ≡ x
+    lifts-here l =
+        ap (λ (ws : List ℕ). lifting (g .list) (g .slip) (g .pairing) ws (length (g .lifted)))
+        (sym (lent-again (g .a) (g .b) (r .1 .1)))
+        ∙ sym (l .0)
+
+    lift-next : asking (g .list) (g .slip) (g .pairing) words (length (g .short)) (length (g .lifted))
+        ≡ onward (i ∷ []) lifts
+    lift-next = ap (λ (x : Answer). andThen x (λ i. onward i lifts)) (sym (r .0))
+
+    outs : {x : Answer} {lifted′ a″ b″ : List ℕ} → LiftDid a′ b′ x lifted′ a″ b″
+        → (short′ ≡ written (replays .0) short-file (g .short))
+        × (lifted′ ≡ after-lift (andThen replays (λ i. lifts) .0))
+    outs l = (
+      short-out r,
+      l .1 .0 ∙ sym (ap (λ (x : Answer). after-lift (x .0)) (lifts-here l))
+          ∙ ap (λ (x : Answer). after-lift (andThen x (λ i. lifts) .0)) (r .0),
+    )
+
+    pub lift-refused : {y : Answer} {k : ℕ} {lifted′ a″ b″ : List ℕ} → y ≡ (k, []) → LiftDid a′ b′ y lifted′ a″ b″
+        → Promised (Refused k) short′ lifted′ a″ b″
+    lift-refused f l = (
+      sym (lift-next ∙ ap (onward (i ∷ [])) (lifts-here l ∙ f)),
+      (outs l, (tt, clear-again (g .a) (g .b) (r .1 .1) (l .1 .1))),
+    )
+
+    -- ---- lift answers j
+
+    module _ {y : Answer} {j : ℕ} {lifted′ a″ b″ : List ℕ} (f : y ≡ (0, j ∷ [])) (lifted : LiftDid a′ b′ y lifted′ a″ b″)
+      where
+        abbrev l : LiftDid a′ b′ (0, j ∷ []) lifted′ a″ b″
+        l = subst (λ z. LiftDid a′ b′ z lifted′ a″ b″) f lifted
+
+        lift-zero : Allowed (g .list) (g .slip) × Liftable (g .list) (g .slip) (g .pairing)
+            × Wrote (liftFile (g .list) (g .slip) (g .pairing)) words (length (g .lifted)) j
+        lift-zero = zero-tells .lifts (g .list) (g .slip) (g .pairing) words (length (g .lifted)) j (lifts-here l)
+
+        pub lift-room : j ≤ length (g .lifted)
+        lift-room = let w = lift-zero .2 in omega (arith, w .fits, w .value)
+
+        lifted-again : take j lifted′ ≡ lift-file
+        lifted-again = ap (take j) (l .1 .0) ∙ file-again lift-file (g .lifted) j (lift-zero .2 .value)
+
+        abbrev clear : Clears (g .a) (g .b) a″ b″
+        clear = clear-again (g .a) (g .b) (r .1 .1) (l .1 .1)
+
+        weighs-next : {x : Answer} {a‴ b‴ : List ℕ} → WeighDid lifted′ a″ b″ j x a‴ b‴
+            → ended (i ∷ []) (j ∷ []) x
+            ≡ asking (g .list) (g .slip) (g .pairing) words (length (g .short)) (length (g .lifted))
+        weighs-next v =
+            ap (ended (i ∷ []) (j ∷ [])) (v .0)
+            ∙ ap₂ (λ (f ws : List ℕ). ended (i ∷ []) (j ∷ []) (weighing (g .list) f ws)) lifted-again
+            (lent-again (g .a) (g .b) clear)
+            ∙ sym (lift-next ∙ ap (onward (i ∷ [])) (lifts-here l))
+
+        pub weigh-refused : {z : Answer} {k : ℕ} {a‴ b‴ : List ℕ} → z ≡ (k, []) → WeighDid lifted′ a″ b″ j z a‴ b‴
+            → Promised (Refused k) short′ lifted′ a‴ b‴
+        weigh-refused d v = (
+          sym (ap (ended (i ∷ []) (j ∷ [])) d) ∙ weighs-next v,
+          (outs l, (tt, clear-again (g .a) (g .b) clear (v .1))),
+        )
+
+        -- ---- weigh answers p
+
+        told : {z : Answer} {p : ℕ} {a‴ b‴ : List ℕ} → z ≡ (0, p ∷ []) → WeighDid lifted′ a″ b″ j z a‴ b‴
+            → Told (g .list) (g .slip) (g .pairing) (take i short′) (take j lifted′) p
+        told {p = p} d v =
+            subst (λ (f : List ℕ). Told (g .list) (g .slip) (g .pairing) f (take j lifted′) p) (sym short-is)
+            (subst (λ (f : List ℕ). Told (g .list) (g .slip) (g .pairing) short-file f p) (sym lifted-again) kept)
+          where
+            short-is : take i short′ ≡ short-file
+            short-is =
+                ap (take i) (r .1 .0)
+                ∙ file-again short-file (g .short) i
+                (zero-tells .replays (g .list) (g .slip) words (length (g .short)) i (sym (r .0)) .1 .value)
+
+            kept : Told (g .list) (g .slip) (g .pairing) short-file lift-file p
+            kept =
+                let h = lift-zero in
+                let three = demand-three (g .list) (g .slip) (h .0) in
+                let keeps = three .2 (g .pairing) (h .1) .1 in
+                record {
+                  exactly =
+                      zero-tells .weighs (g .list) lift-file (lent a″ b″) p
+                      (ap (λ (f : List ℕ). weighing (g .list) f (lent a″ b″)) (sym lifted-again) ∙ sym (v .0) ∙ d) .3
+                      ∙ keeps .exact;
+                  short-keeps = three .1;
+                  lift-keeps = keeps;
+                }
+
+        pub all-answered : {z : Answer} {p : ℕ} {a‴ b‴ : List ℕ} → z ≡ (0, p ∷ []) → WeighDid lifted′ a″ b″ j z a‴ b‴
+            → Promised (Answered i j p) short′ lifted′ a‴ b‴
+        all-answered d v = (
+          sym (ap (ended (i ∷ []) (j ∷ [])) d) ∙ weighs-next v,
+          (outs l, (told d v, clear-again (g .a) (g .b) clear (v .1))),
+        )

@@ -1,5 +1,5 @@
--- What a function that calls replay, lift and weigh one after the other answers and writes, and what it is told: demand 3 of
--- the very bytes that the calls wrote and of the points that weigh answered. Law: proofs/Telling, `told`.
+-- What a function that calls replay, lift and weigh one after the other answers and writes, and what it is told: demand
+-- 3 of the very bytes that the calls wrote and of the points that weigh answered. Law: proofs/Telling, `told`.
 use mathlib.Core.Path.{_≡_}
 use mathlib.Core.List.{List, [], _∷_, _++_}
 use Prim.Native.Nat.{ℕ, _+_}
@@ -36,12 +36,12 @@ asking list slip pairing lent shortRoom liftedRoom =
     andThen (lifting list slip pairing lent liftedRoom) (λ j.
     andThen (weighing list (liftFile list slip pairing) lent) (λ p. (0, i ++ j ++ p))))
 
--- Of the list, slip and pairing that were read, the short list and the lifted pairing that were written, and the points that
--- weigh answered: they are the short pairing's points plus the carried points, and the rest of demand 3 holds.
+-- Of the list, slip and pairing that were read, the short list and the lifted pairing that were written, and the points
+-- that weigh answered: they are the short pairing's points plus the carried points, and the rest of demand 3 holds.
 pub record Told (list slip pairing short lifted : List ℕ) (weighed : ℕ) : Type 0 where
   pub exactly : weighed ≡ points (shortOf short) (pairsOf pairing) + carriedOf short
-  pub shortened : ShortKeeps list slip short
-  pub lifts : LiftKeeps list short pairing lifted
+  pub short-keeps : ShortKeeps list slip short
+  pub lift-keeps : LiftKeeps list short pairing lifted
 
 -- Where all three answer, of as much of the outputs as replay and lift answered.
 abbrev pub Tells : (list slip pairing short lifted : List ℕ) → Asked → Type 0

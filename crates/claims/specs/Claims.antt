@@ -1,8 +1,8 @@
--- What the calls say together, of the files that they read and write, beside demand 3. In order: what the answers 0, 8 and
--- 11 tell; the hypotheses of demand 3 are met, by every well-formed list, every sequence of steps that are allowed and every
--- pairing of the short list; the files of replay and lift, by the published rules and the ties; reduce; solve; pair. Laws:
--- proofs/Answers (`zero-tells`, `refusals-tell`), proofs/Claims (`met`, `replay-claim`, `lift-claim`, `reduce-claim`), proofs/Solved
--- (`solve-claim`), proofs/Paired (`pair-claim`).
+-- What the calls say together, of the files that they read and write, beside demand 3. In order: what the answers 0, 8
+-- and 11 tell; the hypotheses of demand 3 are met, by every well-formed list, every sequence of steps that are allowed
+-- and every pairing of the short list; the files of replay and lift, by the published rules and the ties; reduce;
+-- solve; pair. Laws: proofs/Answers (`zero-tells`, `refusals-tell`), proofs/Claims (`met`, `replay-claim`,
+-- `lift-claim`, `reduce-claim`), proofs/Solved (`solve-claim`), proofs/Paired (`pair-claim`).
 use mathlib.Core.Path.{_≡_}
 use mathlib.Core.Logic.{_↔_}
 use mathlib.Core.Bool.{false}
@@ -55,7 +55,8 @@ pub record ZeroTells : Type 0 where
   pub weighs : (list pairing lent : List ℕ) (p : ℕ) → weighing list pairing lent ≡ (0, p ∷ [])
       → AcceptedList list × (badPairing (cellsOf list) pairing ≡ false)
       × PairingOf (storeOf list) (pairsOf pairing) × (p ≡ points (storeOf list) (pairsOf pairing))
-  pub reduces : (list lent : List ℕ) (slipRoom shortRoom i j : ℕ) → reducing list lent slipRoom shortRoom ≡ (0, i ∷ j ∷ [])
+  pub reduces : (list lent : List ℕ) (slipRoom shortRoom i j : ℕ)
+      → reducing list lent slipRoom shortRoom ≡ (0, i ∷ j ∷ [])
       → AcceptedList list × Wrote (reduceSlip list) lent slipRoom i × Wrote (reduceShort list) lent shortRoom j
   pub solves : (list slip lent : List ℕ) (room i : ℕ) → solving list slip lent room ≡ (0, i ∷ [])
       → Allowed list slip × (leftCells list slip ≤ 12) × Wrote (solveFile list slip) lent room i
@@ -123,9 +124,9 @@ pub record Met : Type 0 where
 
 -- ---- replay and lift
 
--- What replay writes, at most 32,780 bytes, by the steps of the slip: 'the pairs left after the last step, with their points
--- there', and 'the sum of what the slip's steps carry'; the graph that the first step stands on and each step are by the
--- published rules.
+-- What replay writes, at most 32,780 bytes, by the steps of the slip: 'the pairs left after the last step, with their
+-- points there', and 'the sum of what the slip's steps carry'; the graph that the first step stands on and each step
+-- are by the published rules.
 pub record ReplayClaim (list slip : List ℕ) (ss : List Step) : Type 0 where
   pub cells : cellsOf (replayShort list slip) ≡ cellsOf list
   pub entries : shortOf (replayShort list slip) ≡ shortList (cellsOf list) (left (graphIn list) ss)
@@ -134,18 +135,19 @@ pub record ReplayClaim (list slip : List ℕ) (ss : List Step) : Type 0 where
   pub rules : AllPublished (cellsOf list) (graphIn list) ss
   pub longest : length (replayShort list slip) ≤ 32780
 
--- What lift writes, at most 1,540 bytes: what the way back makes of the short pairing, by the best of each chain and ring.
--- Weigh answers its points.
+-- What lift writes, at most 1,540 bytes: what the way back makes of the short pairing, by the best of each chain and
+-- ring. Weigh answers its points.
 pub record LiftClaim (list slip pairing : List ℕ) (ss : List Step) : Type 0 where
-  pub back : (up : List Pair) × Lifts (graphIn list) ss (pairsOf pairing) up × (pairsOf (liftFile list slip pairing) ≡ filed up)
+  pub back : (up : List Pair) × Lifts (graphIn list) ss (pairsOf pairing) up
+      × (pairsOf (liftFile list slip pairing) ≡ filed up)
   pub weighs : (lent : List ℕ) → fewWords lent ≡ false → weighing list (liftFile list slip pairing) lent
       ≡ (0, (points (shortOf (replayShort list slip)) (pairsOf pairing) + carriedOf (replayShort list slip)) ∷ [])
   pub longest : length (liftFile list slip pairing) ≤ 1540
 
 -- ---- reduce
 
--- The slip that reduce writes, at most 2,052 bytes, is allowed and names its steps, each the first that is allowed where it
--- stands, and none after them; replay of that slip writes the short list that reduce writes.
+-- The slip that reduce writes is allowed and names its steps, each the first that is allowed where it stands, and none
+-- after them; replay of that slip writes the short list that reduce writes.
 pub record ReduceClaim (list : List ℕ) : Type 0 where
   pub writes : (lent : List ℕ) (slipRoom shortRoom : ℕ) → fewWords lent ≡ false → length (reduceSlip list) ≤ slipRoom
       → length (reduceShort list) ≤ shortRoom
@@ -154,12 +156,12 @@ pub record ReduceClaim (list : List ℕ) : Type 0 where
   pub names : Names list (reduceSlip list) (reduceSteps list)
   pub in-turn : InTurn (cellsOf list) (graphIn list) (reduceSteps list)
   pub replays : replayShort list (reduceSlip list) ≡ reduceShort list
-  pub longest : length (reduceSlip list) ≤ 2052
+  pub longest : (length (reduceSlip list) ≤ 2052) × (length (reduceShort list) ≤ 32780)
 
 -- ---- solve
 
--- What solve writes where at most 12 cells have pairs left, at most 1,540 bytes: a heaviest pairing of the short list, and
--- of those the first by partners; lift takes it.
+-- What solve writes where at most 12 cells have pairs left, at most 1,540 bytes: a heaviest pairing of the short list,
+-- and of those the first by partners; lift takes it.
 pub record SolveClaim (list slip : List ℕ) : Type 0 where
   pub writes : leftCells list slip ≤ 12 → Writes (solving list slip) (solveFile list slip)
   pub liftable : Liftable list slip (solveFile list slip)
@@ -170,9 +172,9 @@ pub record SolveClaim (list slip : List ℕ) : Type 0 where
 
 -- ---- pair
 
--- What pair writes where at most 12 cells have pairs left after reduce: what lift makes, with the slip that reduce writes, of
--- the pairing that solve writes with that slip, so with the ties of both. It is a heaviest pairing of the store, and weigh
--- answers the points of solve's pairing in the short list plus the carried points.
+-- What pair writes where at most 12 cells have pairs left after reduce: what lift makes, with the slip that reduce
+-- writes, of the pairing that solve writes with that slip, so with the ties of both. It is a heaviest pairing of the
+-- store, and weigh answers the points of solve's pairing in the short list plus the carried points.
 pub record PairClaim (list : List ℕ) : Type 0 where
   pub writes : leftCells list (reduceSlip list) ≤ 12 → Writes (pairing list) (pairingFile list)
   pub composed : pairingFile list ≡ liftFile list (reduceSlip list) (solveFile list (reduceSlip list))

@@ -1,8 +1,9 @@
 -- Demand 3, whole: 'Nobody who lifts a pairing of the short list can gain or lose a point on the way.' The statement is
--- `DemandThree`, at the end; law: `demand-three`, proofs/Demand. It speaks of the calls replay and lift and of the files
--- that they read and write: the store is the entries of the list, the short list and the carried points are read from
--- the file that replay writes, the pairs of a pairing from its file. What the calls answer and write is in the crates
--- `reduction` and `lifting`, specs/Calls. That an answer of 0 gives the hypotheses, and that they are met: see Claims.
+-- `DemandThree`, at the end; law: `demand-three`, proofs/Demand. It speaks of the calls replay and lift and of the
+-- files that they read and write: the store is the entries of the list, the short list and the carried points are read
+-- from the file that replay writes, the pairs of a pairing from its file. What the calls answer and write is in the
+-- crates `reduction` and `lifting`, specs/Calls. That an answer of 0 gives the hypotheses, and that they are met: see
+-- Claims.
 use mathlib.Core.Path.{_≡_}
 use mathlib.Core.Bool.{false}
 use mathlib.Core.List.{List, [], _∷_, map}
@@ -43,8 +44,8 @@ HeaviestOf es m = Heaviest (joined es) (listed es) m
 abbrev pub Names : (list slip : List ℕ) → List Step → Type 0
 Names list slip ss = AreSteps (cellsOf list) (graphIn list) (map asName (stepsOf slip)) ss
 
--- 'Given the buffers and room that refusals 1 and 12 ask' a call answers 0 and the length of its file, and so writes it.
--- The call is its answer for the lengths of the work buffers and of the output.
+-- 'Given the buffers and room that refusals 1 and 12 ask' a call answers 0 and the length of its file, and so writes
+-- it. The call is its answer for the lengths of the work buffers and of the output.
 abbrev pub Writes : (List ℕ → ℕ → Answer) → List ℕ → Type 0
 Writes call file =
     (lent : List ℕ) (room : ℕ) → fewWords lent ≡ false → length file ≤ room
@@ -52,8 +53,8 @@ Writes call file =
 
 -- ---- the hypotheses
 
--- 'Take any accepted list, any slip whose steps, in whatever order and number, are each allowed where they stand': refusals
--- 2 to 8 say nothing.
+-- 'Take any accepted list, any slip whose steps, in whatever order and number, are each allowed where they stand':
+-- refusals 2 to 8 say nothing.
 pub record Allowed (list slip : List ℕ) : Type 0 where
   pub accepted : AcceptedList list
   pub formed : badSlip (cellsOf list) slip ≡ false
@@ -76,9 +77,9 @@ pub record ShortKeeps (list slip short : List ℕ) : Type 0 where
   pub of-short : (b : List Pair) × HeaviestOf (shortOf short) b
   pub steps : length (stepsOf slip) ≤ cellsOf list
 
--- '.. a pairing of the store whose points are exactly the short pairing's plus the carried points'; 'if the short pairing
--- is some points below the heaviest short one, the lifted is just as many below the heaviest of the store'. So a heaviest
--- one is lifted to a heaviest one.
+-- '.. a pairing of the store whose points are exactly the short pairing's plus the carried points'; 'if the short
+-- pairing is some points below the heaviest short one, the lifted is just as many below the heaviest of the store'. So
+-- a heaviest one is lifted to a heaviest one.
 pub record LiftKeeps (list short pairing lifted : List ℕ) : Type 0 where
   pub pairs : PairingOf (storeOf list) (pairsOf lifted)
   pub exact : points (storeOf list) (pairsOf lifted) ≡ points (shortOf short) (pairsOf pairing) + carriedOf short

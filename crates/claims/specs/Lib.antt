@@ -1,5 +1,5 @@
--- What the calls promise together, said of the files that they read and write: demand 3; what else they say of one another's
--- files; and what a function that calls replay, lift and weigh is told.
+-- What the calls promise together, said of the files that they read and write: demand 3; what else they say of one
+-- another's files; and what a function that calls replay, lift and weigh is told.
 pub mod Demand
 pub mod Claims
 pub mod Asking

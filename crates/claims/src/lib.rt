@@ -1,6 +1,6 @@
-// What the calls promise together, of the files that they read and write: specs/Demand and specs/Claims, with the laws in
-// proofs/. One function, for no caller but the reader: replay, lift and weigh on one list, slip and pairing, and demand 3 of
-// what they themselves answer and write (specs/Asking).
+// What the calls promise together, of the files that they read and write: specs/Demand and specs/Claims, with the laws
+// in proofs/. One function, for no caller but the reader: replay, lift and weigh on one list, slip and pairing, and
+// demand 3 of what they themselves answer and write (specs/Asking).
 use cellfile::Weighed;
 use lifting::Paired;
 use reduction::Replayed;
@@ -11,7 +11,8 @@ ghost use Rattle.reduction.specs.Calls.{written, replaying, replayShort};
 ghost use Rattle.lifting.specs.Calls.{liftFile};
 ghost use Rattle.claims.specs.Asking.{asked, lifts, asking, Tells};
 
-// The refusal of the first call that refuses, or the lengths that replay and lift answer and the points that weigh does.
+// The refusal of the first call that refuses, or the lengths that replay and lift answer and the points that weigh
+// does.
 pub enum Asked {
     Refused(u32),
     Answered {

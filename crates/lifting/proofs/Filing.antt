@@ -1,7 +1,7 @@
 -- Pairings as files. In order: a pairing of a graph of n cells is read as itself in file order (`file-in-order`,
--- `file-read`, `file-pairing`), passes refusal 9 (`file-formed`), and has at most 1,540 bytes (`file-longest`); what is lifted by steps
--- that are allowed is a pairing of the store (`lifted-pairing`), and heaviest where it was (`heaviest-lifted`); what pair
--- writes (`best-left`, `pairing-read`). Assumes nothing.
+-- `file-read`, `file-pairing`), passes refusal 9 (`file-formed`), and has at most 1,540 bytes (`file-longest`); what is
+-- lifted by steps that are allowed is a pairing of the store (`lifted-pairing`), and heaviest where it was
+-- (`heaviest-lifted`); what pair writes (`best-left`, `pairing-read`). Assumes nothing.
 use mathlib.Core.Path.{_≡_, sym, subst}
 use mathlib.Core.Bool.{false}
 use mathlib.Core.List.{List, [], _∷_, map}
@@ -32,7 +32,7 @@ use Rattle.reduction.proofs.Loading.{list-accepted}
 use Rattle.reduction.proofs.Courses.{list-graph, left-graph}
 use Rattle.reduction.proofs.Reducing.{reduce-allowed}
 use Rattle.partners.proofs.Tabled.{pairing-half}
-use Rattle.lifting.specs.Calls.{pairFile, liftedFile, graphAfter, pairingFile, solution}
+use Rattle.lifting.specs.Calls.{pairFile, graphAfter, pairingFile, solution}
 use Rattle.lifting.proofs.Solution.{solution-heaviest}
 
 -- ---- a pairing of a graph, as a file

@@ -11,12 +11,12 @@ use Rattle.matching.specs.Graph.{degree, cellsLeft}
 use Rattle.matching.specs.Steps.{Step}
 use Rattle.matching.specs.Slip.{left, lift}
 use Rattle.matching.specs.Solve.{solve}
-use Rattle.cellfile.specs.Files.{storeList, pairing as pairingLayout, cellsOf, stepsOf, pairsOf, writeFile}
+use Rattle.cellfile.specs.Files.{storeList, pairing as pairingLayout, cellsOf, stepsOf, pairsOf, pairFields}
+use Rattle.cellfile.specs.Files.{writeFile}
 use Rattle.cellfile.specs.Refusals.{Row, first, fewWords, listRows, badSlip, disallowed, badPairing, noPairing}
 use Rattle.cellfile.specs.Refusals.{crowded, shortOutput}
 use Rattle.cellfile.specs.Answers.{Answer, answer}
 use Rattle.reduction.specs.Calls.{graphIn, stepsOn, stand, reduceSteps}
-use Rattle.cellfile.specs.Files.{pairFields}
 use Rattle.lifting.specs.declared.Paired.{Paired}
 use Rattle.lifting.specs.declared.Paired.the-variants.{Refused, Length}
 

@@ -15,7 +15,7 @@ use Rattle.matching.specs.Lists.{mem}
 use Rattle.matching.specs.Pairs.{Points}
 use Rattle.matching.specs.Graph.{Graph, partners, degree}
 use Rattle.matching.specs.Steps.{Rule, by-leaf, by-ring, by-chain, Step, leaf, ring, chain, name}
-use Rattle.matching.specs.Shapes.{IsRow, Lowest, IsLeaf, IsRing, IsChain, IsStep, first, last, rank, NoLater}
+use Rattle.matching.specs.Shapes.{IsRow, Lowest, IsLeaf, IsRing, IsChain, IsStep, first, last, NoLater}
 use Rattle.matching.specs.Find.{Row, row, lowest, isLowest, two, provided, leafOf, ringOf, chainOf}
 use Rattle.matching.specs.Find.{orElse, search, stepAt, firstStep}
 use Rattle.matching.proofs.Tests.{Test, pass, fail, isT, eqT, ltT, notT, andT, mapT, fails}

@@ -1,6 +1,6 @@
--- The graph of a list is the list after Rule 2.3 (`weightless`); a step that is allowed is the published rule that it is
--- named after (`published`, of a slip `slip-published`). In order: lists; what is dropped and put among the inner cells; the
--- three rules; slips. Assumes nothing.
+-- The graph of a list is the list after Rule 2.3 (`weightless`); a step that is allowed is the published rule that it
+-- is named after (`published`, of a slip `slip-published`). In order: lists; what is dropped and put among the inner
+-- cells; the three rules; slips. Assumes nothing.
 use mathlib.Core.Path.{_≡_, refl, sym, ap, _∙_}
 use mathlib.Core.Logic.{_⊎_, inl, inr, _≢_}
 use mathlib.Core.Bool.{Bool, true, false, cond}

@@ -1,7 +1,7 @@
 -- Slips and reduce. In order: the steps that a slip names stand, each on what the one before it left (`replay-fits`),
--- and are what the description calls so (`replay-is`, `replay-not`); what they carry together (`carried-sum`); there are no
--- more of them than cells (`slip-count`); the steps of reduce are allowed (`reduce-replay`), come in parts (`reduce-append`), each is
--- the first that is allowed, and after them none is (`reduce-in-turn`).
+-- and are what the description calls so (`replay-is`, `replay-not`); what they carry together (`carried-sum`); there
+-- are no more of them than cells (`slip-count`); the steps of reduce are allowed (`reduce-replay`), come in parts
+-- (`reduce-append`), each is the first that is allowed, and after them none is (`reduce-in-turn`).
 use mathlib.Core.Path.{_≡_, refl, ap, ap₂, subst, _∙_}
 use mathlib.Core.Logic.{_↔_, inl, inr}
 use mathlib.Core.List.{List, [], _∷_, _++_, map}

@@ -164,6 +164,13 @@ nowhere x y m h = each-map (λ a b q. go (same x y a b) q) m (each-zero (like x 
     go true q = (let z : ⊥ = omega arith in absurd z)
     go false q = refl
 
+-- Two pairs that differ, either way round.
+differ : {x y a b : ℕ} → (a ≢ x) ⊎ (b ≢ y) → (a ≢ y) ⊎ (b ≢ x) → Same x y a b → ⊥
+differ (inl n) k (inl q) = n (q .0)
+differ (inr n) k (inl q) = n (q .1)
+differ n (inl k) (inr q) = k (q .0)
+differ n (inr k) (inr q) = k (q .1)
+
 -- Of two pairs with the cell c, a pairing that holds the one does not hold the other.
 module _ (m : List Pair) (once : Once m) (c x y : ℕ) (at : (x ≡ c) ⊎ (y ≡ c)) (h : held x y m ≡ true) where
   here : 1 ≤ sum (like x y) m
@@ -199,11 +206,20 @@ module _ {n : ℕ} {w : Points} (g : Graph n w) {u v z : ℕ} {inner : List ℕ}
   u≢v : u ≢ v
   u≢v e = omega (arith, p .ends)
 
+  v≢u : v ≢ u
+  v≢u e = omega (arith, p .ends)
+
+  z≢u : z ≢ u
+  z≢u = mem-apart z u inner (p .low .here) (p .row .first-off)
+
   u≢z : u ≢ z
-  u≢z e = mem-apart z u inner (p .low .here) (p .row .first-off) (sym e)
+  u≢z e = z≢u (sym e)
+
+  z≢v : z ≢ v
+  z≢v = mem-apart z v inner (p .low .here) (p .row .last-off)
 
   v≢z : v ≢ z
-  v≢z e = mem-apart z v inner (p .low .here) (p .row .last-off) (sym e)
+  v≢z e = z≢v (sym e)
 
   abbrev offs : Bool → Bool → Bool → Bool → List ℕ
   offs x y d t = cond x (v ∷ []) (cond y (u ∷ []) (cond (d && not t) [] (u ∷ v ∷ [])))
@@ -254,46 +270,22 @@ module _ {n : ℕ} {w : Points} (g : Graph n w) {u v z : ℕ} {inner : List ℕ}
 
     -- of the three pairs at most one is held
     uz-vz : uz ≡ true → vz ≡ false
-    uz-vz e = other-not m o z u z (inr refl) e v z (inr refl) no
-      where
-        no : Same v z u z → ⊥
-        no (inl q) = u≢v (q .0)
-        no (inr q) = u≢z (q .0)
+    uz-vz e = other-not m o z u z (inr refl) e v z (inr refl) (differ (inl u≢v) (inl u≢z))
 
     uz-uv : uz ≡ true → uv ≡ false
-    uz-uv e = other-not m o u u z (inl refl) e u v (inl refl) no
-      where
-        no : Same u v u z → ⊥
-        no (inl q) = v≢z (sym (q .1))
-        no (inr q) = u≢v (q .0)
+    uz-uv e = other-not m o u u z (inl refl) e u v (inl refl) (differ (inr z≢v) (inl u≢v))
 
     vz-uz : vz ≡ true → uz ≡ false
-    vz-uz e = other-not m o z v z (inr refl) e u z (inr refl) no
-      where
-        no : Same u z v z → ⊥
-        no (inl q) = u≢v (sym (q .0))
-        no (inr q) = v≢z (q .0)
+    vz-uz e = other-not m o z v z (inr refl) e u z (inr refl) (differ (inl v≢u) (inl v≢z))
 
     vz-uv : vz ≡ true → uv ≡ false
-    vz-uv e = other-not m o v v z (inl refl) e u v (inr refl) no
-      where
-        no : Same u v v z → ⊥
-        no (inl q) = u≢v (sym (q .0))
-        no (inr q) = u≢z (sym (q .1))
+    vz-uv e = other-not m o v v z (inl refl) e u v (inr refl) (differ (inl v≢u) (inr z≢u))
 
     uv-uz : uv ≡ true → uz ≡ false
-    uv-uz e = other-not m o u u v (inl refl) e u z (inl refl) no
-      where
-        no : Same u z u v → ⊥
-        no (inl q) = v≢z (q .1)
-        no (inr q) = u≢z (q .0)
+    uv-uz e = other-not m o u u v (inl refl) e u z (inl refl) (differ (inr v≢z) (inl u≢z))
 
     uv-vz : uv ≡ true → vz ≡ false
-    uv-vz e = other-not m o v u v (inr refl) e v z (inl refl) no
-      where
-        no : Same v z u v → ⊥
-        no (inl q) = u≢v (q .0)
-        no (inr q) = u≢z (q .0)
+    uv-vz e = other-not m o v u v (inr refl) e v z (inl refl) (differ (inl u≢v) (inl u≢z))
 
     abbrev kept : List Pair
     kept = keep (λ a b. stay (same u z a b) (same v z a b) (same u v a b) t) m

@@ -1,9 +1,8 @@
--- Reduction Rules 2.3 to 2.6 in the paper's words, of the graph before the rule, the graph w′ after it, and the offset s by
--- which the solution value decreases. The weight of a part, ω(X), is the points of any heaviest pairing of it (a
+-- Reduction Rules 2.3 to 2.6 in the paper's words, of the graph before the rule, the graph w′ after it, and the offset
+-- s by which the solution value decreases. The weight of a part, ω(X), is the points of any heaviest pairing of it (a
 -- maximum-weight matching, match(X)); every part has one (`row-heaviest`, proofs/Ways). Laws: proofs/Published,
--- `weightless` (Rule 2.3), `published` and `slip-published`.
--- Here the cell z, new in the paper, is an inner cell; and Rule 2.5 is also for a cycle whose cells all have degree
--- two.
+-- `weightless` (Rule 2.3), `published` and `slip-published`. Here the cell z, new in the paper, is an inner cell; and
+-- Rule 2.5 is also for a cycle whose cells all have degree two.
 use mathlib.Core.Path.{_≡_}
 use mathlib.Core.Logic.{_≢_}
 use mathlib.Core.Bool.{true, false}
@@ -19,16 +18,16 @@ use Rattle.matching.specs.Best.{walk}
 use Rattle.matching.specs.Steps.{Step, leaf, ring, chain, apply, carry}
 use Rattle.matching.specs.Ties.{MostOf}
 
--- 'If deg(v) = 0 for a vertex v ∈ V, then delete v. If ω(e) = 0 for an edge e ∈ E, then delete e.' The edges are the entries
--- of a list. In a graph a pair of weight 0 is no pair, and a cell without pairs is no cell, here and after every other
--- rule. The solution value does not change.
+-- 'If deg(v) = 0 for a vertex v ∈ V, then delete v. If ω(e) = 0 for an edge e ∈ E, then delete e.' The edges are the
+-- entries of a list. In a graph a pair of weight 0 is no pair, and a cell without pairs is no cell, here and after
+-- every other rule. The solution value does not change.
 pub record Rule23 (es : List Entry) (w′ : Points) : Type 0 where
   pub weights : All (λ (e : Entry). w′ (e .0) (e .1) ≡ e .2) es
   pub others : (a b : ℕ) → joined es a b ≡ 0 → w′ a b ≡ 0
   pub value : (a b : List Pair) → Heaviest (joined es) w′ a → Heaviest w′ w′ b → sum w′ a ≡ sum w′ b
 
--- 'Let v be a degree-one vertex and let u be its neighbor. Then delete v, set the weight of every edge e incident with u
--- to max{0, ω(e) − ω(uv)}, and decrease the solution value s by ω(uv).' A difference of numbers is not below 0.
+-- 'Let v be a degree-one vertex and let u be its neighbor. Then delete v, set the weight of every edge e incident with
+-- u to max{0, ω(e) − ω(uv)}, and decrease the solution value s by ω(uv).' A difference of numbers is not below 0.
 pub record Rule24 (n : ℕ) (w w′ : Points) (s u v : ℕ) : Type 0 where
   pub one : degree n w v ≡ 1
   pub neighbour : 0 < w u v
@@ -62,9 +61,9 @@ pub record Rule25 (n : ℕ) (w w′ : Points) (s u z : ℕ) (inner : List ℕ) :
   pub others : (a b : ℕ) → mem a inner ≡ false → mem b inner ≡ false → w′ a b ≡ w a b
   pub offset : (c-u : List Pair) → MostOf w (u ∷ []) (walk u inner u) c-u → s ≡ sum w c-u
 
--- 'Let P be a maximal path in G with endpoints u and v. Then remove all vertices in P except u and v, add a new vertex z
--- and, if not already existing, add the edge uv. Furthermore, set ω(uz) := ω(P − v) − ω(P − u − v), ω(vz) := ω(P − u) −
--- ω(P − u − v), and ω(uv) := max{ω(uv), ω(P) − ω(P − u − v)}, and decrease the solution value s by ω(P − u − v).'
+-- 'Let P be a maximal path in G with endpoints u and v. Then remove all vertices in P except u and v, add a new vertex
+-- z and, if not already existing, add the edge uv. Furthermore, set ω(uz) := ω(P − v) − ω(P − u − v), ω(vz) := ω(P − u)
+-- − ω(P − u − v), and ω(uv) := max{ω(uv), ω(P) − ω(P − u − v)}, and decrease the solution value s by ω(P − u − v).'
 pub record Rule26 (n : ℕ) (w w′ : Points) (s u v z : ℕ) (inner : List ℕ) : Type 0 where
   pub path : Part n w u v inner
   pub ends : (u ≢ v) × (degree n w u ≢ 2) × (degree n w v ≢ 2)
@@ -85,8 +84,8 @@ Published n w (leaf u v) = Rule24 n w (apply w (leaf u v)) (carry w (leaf u v)) 
 Published n w (ring u z inner) = Rule25 n w (apply w (ring u z inner)) (carry w (ring u z inner)) u z inner
 Published n w (chain u v z inner) = Rule26 n w (apply w (chain u v z inner)) (carry w (chain u v z inner)) u v z inner
 
--- Each step of a slip is, where it stands; before and after each stands a graph, in which the order of two cells does not
--- matter.
+-- Each step of a slip is, where it stands; before and after each stands a graph, in which the order of two cells does
+-- not matter.
 abbrev pub AllPublished : ℕ → Points → List Step → Type 0
 AllPublished n w [] = Graph n w
 AllPublished n w (s ∷ ss) = Graph n w × Published n w s × AllPublished n (apply w s) ss

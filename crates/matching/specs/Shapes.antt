@@ -68,8 +68,8 @@ IsStep n w by-chain c (leaf u v) = ⊥
 IsStep n w by-chain c (ring u z inner) = ⊥
 IsStep n w by-chain c (chain u v z inner) = (z ≡ c) × IsChain n w u v z inner
 
--- The order in which steps are tried: 'a leaf step at the lowest possible cell; without one, a ring step at the lowest cell
--- named z; without one, a chain step likewise'. The step named x is tried no later than the one named y.
+-- The order in which steps are tried: 'a leaf step at the lowest possible cell; without one, a ring step at the lowest
+-- cell named z; without one, a chain step likewise'. The step named x is tried no later than the one named y.
 abbrev pub rank : Rule → ℕ
 rank by-leaf = 0
 rank by-ring = 1

@@ -1,8 +1,9 @@
 -- The course of steps on an accepted list. In order: without more steps it is what the slip's names name
 -- (`course-replay`); the cells of steps that stand; what has passed the list's check (`list-there`); an accepted list
 -- is a graph of its cells (`list-graph`) whose points, with what is carried, have 44 bits after any steps that are
--- allowed (`left-small`); so the loop may run on it (`run-there`), and what the steps leave is a graph
--- (`left-graph`) that may be written (`left-there`); they are at most 1,024 (`steps-few`), with cells of 10 bits (`steps-below`). Assumes nothing.
+-- allowed (`left-small`); so the loop may run on it (`run-there`), and what the steps leave is a graph (`left-graph`)
+-- that may be written (`left-there`); they are at most 1,024 (`steps-few`), with cells of 10 bits (`steps-below`).
+-- Assumes nothing.
 use mathlib.Core.Path.{_≡_, refl, ap}
 use mathlib.Core.Bool.{Bool}
 use mathlib.Core.List.{List, [], _∷_, map}

@@ -11,7 +11,7 @@ use lib.ListN.{length, length-append}
 use Rattle.matching.specs.Pairs.{Points}
 use Rattle.matching.specs.Graph.{Graph, cellsLeft}
 use Rattle.matching.specs.Steps.{Rule, Step, leaf, ring, chain, apply, name, inside}
-use Rattle.matching.specs.Find.{stepAt, firstStep}
+use Rattle.matching.specs.Find.{stepAt}
 use Rattle.matching.specs.Slip.{left, reduce}
 use Rattle.matching.proofs.Fits.{Fits, Stands}
 use Rattle.matching.proofs.Find.{step-is, step-name, first-step-is}

@@ -33,7 +33,7 @@ use Rattle.cellfile.specs.Answers.{Answer}
 use Rattle.cellfile.specs.Reads.{StepRead}
 use Rattle.cellfile.specs.declared.decode.SlipStep.{SlipStep}
 use Rattle.cellfile.proofs.Walk.{from-start, from-next, from-end}
-use Rattle.slots.specs.Slots.{Holds, graphOf}
+use Rattle.slots.specs.Slots.{graphOf}
 use Rattle.slots.proofs.Holding.{holds-room, holds-aside}
 use Rattle.steps.specs.Finding.{toTell, ruleOf, Finds, stepFrom, stepOf, Quiet, Quieted}
 use Rattle.steps.specs.Finding.{RingQuiet, LowestRing, RingQuieted}
@@ -43,7 +43,7 @@ use Rattle.steps.specs.declared.finding.Found.{Found}
 use Rattle.steps.specs.declared.applying.Taken.{Taken}
 use Rattle.steps.proofs.Taken.{drop-same}
 use Rattle.steps.proofs.Applied.{found-step}
-use Rattle.reduction.specs.Calls.{asName, numberOf, nameFields}
+use Rattle.reduction.specs.Calls.{asName, numberOf}
 use Rattle.reduction.specs.Course.{course}
 use Rattle.reduction.specs.Running.{namesAt, namesFrom, nextStep, named, toName, nameWord, Small}
 use Rattle.reduction.specs.Running.{RunThere, After, RunDone}

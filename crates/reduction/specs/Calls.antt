@@ -9,11 +9,10 @@ use Rattle.matching.specs.Listed.{listed, shortList}
 use Rattle.matching.specs.Steps.{Rule, by-leaf, by-ring, by-chain, Step, name}
 use Rattle.matching.specs.Slip.{replay, left, carried, reduce}
 use Rattle.cellfile.specs.Files.{storeList, slip as slipLayout, shortList as shortLayout, cellsOf, entriesOf, stepsOf}
-use Rattle.cellfile.specs.Files.{writeFile, onto}
+use Rattle.cellfile.specs.Files.{asFields, writeFile, onto}
 use Rattle.cellfile.specs.Refusals.{Row, first, fewWords, listRows, badSlip, disallowed, shortOutput}
 use Rattle.cellfile.specs.Answers.{Answer, answer}
 use Rattle.steps.specs.Finding.{ruleOf}
-use Rattle.cellfile.specs.Files.{asFields}
 use Rattle.reduction.specs.declared.Replayed.{Replayed}
 use Rattle.reduction.specs.declared.Replayed.the-variants as replays
 use Rattle.reduction.specs.declared.Reduced.{Reduced}

@@ -12,16 +12,12 @@ use borrow.Author.Tests.{le-leb}
 use Rattle.matching.specs.Pairs.{Pair, Each}
 use Rattle.matching.specs.Pairing.{Pairing}
 use Rattle.matching.specs.Listed.{Entry, joined, shortList, filed}
-use Rattle.matching.specs.Graph.{Graph}
 use Rattle.matching.specs.Steps.{Step, name}
 use Rattle.matching.specs.Slip.{carried, lift}
 use Rattle.matching.proofs.Alls.{all-map, each-is-all}
 use Rattle.matching.proofs.Sums.{each-map}
-use Rattle.matching.proofs.Put.{pair-below, pair-apart}
-use Rattle.matching.proofs.Filed.{InOrder, filed-in-order}
-use Rattle.matching.proofs.Entries.{joined-graph}
-use Rattle.matching.proofs.Reduce.{replay-fits}
-use Rattle.matching.proofs.Demand.{slip-lifted}
+use Rattle.matching.proofs.Put.{pair-below}
+use Rattle.matching.proofs.Filed.{InOrder}
 use Rattle.cellfile.specs.Bytes.{number}
 use Rattle.cellfile.specs.Fields.{packed, writeRecord, writeRecords, readRecords}
 use Rattle.cellfile.specs.Files.{storeList, pairing as pairingLayout, slip as slipLayout, shortList as shortLayout}
@@ -37,10 +33,9 @@ use Rattle.reduction.specs.Calls.{graphIn, slipFile, shortFile, nameFields, red
 use Rattle.cellfile.specs.Files.{asFields}
 use Rattle.reduction.proofs.Reducing.{reduce-allowed}
 use Rattle.reduction.proofs.Loading.{list-accepted}
-use Rattle.reduction.proofs.Courses.{list-graph, list-few, left-small, steps-few}
+use Rattle.reduction.proofs.Courses.{list-few, left-small, steps-few}
 use Rattle.matching.proofs.Demand.{short-fewer}
 use Rattle.cellfile.specs.Files.{pairFields}
-use Rattle.partners.proofs.Tabled.{pairing-half}
 use Rattle.lifting.specs.Calls.{graphAfter, solution, pairingFile}
 use Rattle.lifting.proofs.Filing.{file-pairing, file-in-order, file-half, all-entries, pairing-pairing, pairing-read}
 use Rattle.report.specs.Printed.{withPoints}

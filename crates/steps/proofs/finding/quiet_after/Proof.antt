@@ -41,19 +41,22 @@ enum-told c = search needs
 returns-2 : tie.Need-returns-2
 returns-2 c =
     let m = c .before .lower .ensures in
-    quieted-leaf (c .before .before .before .before .step .given .1) (omega (arith, m), omega (arith, m)) (c .lowest-near .ensures)
+    quieted-leaf (c .before .before .before .before .step .given .1) (omega (arith, m), omega (arith, m))
+    (c .lowest-near .ensures)
 
 returns-3 : tie.Need-returns-3
 returns-3 c =
     let l = c .lower3 .ensures in
     let m = c .before .lower2 .ensures in
-    quieted-ring (c .before .before .before .step2 .given .1) (omega (arith, l)) (omega (arith, l, m)) (omega (arith, l, m))
+    quieted-ring (c .before .before .before .step2 .given .1)
+    (omega (arith, l)) (omega (arith, l, m)) (omega (arith, l, m))
 
 returns-4 : tie.Need-returns-4
 returns-4 c =
     let l = c .lower5 .ensures in
     let m = c .before .lower4 .ensures in
-    quieted-chain (c .before .before .before .step3 .given .1) (omega (arith, l)) (omega (arith, l, m)) (omega (arith, l, m))
+    quieted-chain (c .before .before .before .step3 .given .1)
+    (omega (arith, l)) (omega (arith, l, m)) (omega (arith, l, m))
 
 returns-5 : tie.Need-returns-5
 returns-5 c = quieted-none (c .enum-told .given .1)
