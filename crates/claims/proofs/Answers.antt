@@ -1,8 +1,8 @@
--- What the answers tell. In order: the answer 0, by call (`zero-tells`); 8 and 11, each just where its condition is the
--- first that holds (`refusals-tell`). Assumes nothing.
+-- What the answers tell. In order: the answer 0, by call (`zero-tells`); 8, 10 and 11, each just where its condition is
+-- the first that holds (`refusals-tell`). Assumes nothing.
 use mathlib.Core.Path.{_≡_, refl, sym, ap, subst, _∙_}
 use mathlib.Core.Logic.{_↔_, _≢_}
-use mathlib.Core.Bool.{true, false, not, false≢true, true≢false}
+use mathlib.Core.Bool.{Bool, true, false, not, false≢true, true≢false}
 use mathlib.Core.List.{List, [], _∷_, _++_, map}
 use mathlib.Core.Option.{Option, some, none}
 use Prim.Native.Nat.{ℕ, _≤_, _<_}
@@ -10,12 +10,12 @@ use native.Mathlib.Omega.{arith}
 use lib.ListN.{length, getD}
 use borrow.Author.Tests.{lt-ltb, ltb-true, ltb-false, not-false}
 use Rattle.matching.specs.Lists.{All}
-use Rattle.matching.specs.Pairs.{Points}
+use Rattle.matching.specs.Pairs.{Pair, Points}
 use Rattle.matching.specs.Pairing.{Pairing, isPairing}
 use Rattle.matching.specs.Graph.{cellsLeft}
 use Rattle.matching.specs.Steps.{Step}
 use Rattle.matching.specs.Slip.{SomeStepNot}
-use Rattle.matching.proofs.Pairing.{is-pairing}
+use Rattle.matching.proofs.Pairing.{is-pairing, pairing-is}
 use Rattle.matching.proofs.Reduce.{replay-not}
 use Rattle.cellfile.specs.Files.{cellsOf, stepsOf, pairsOf}
 use Rattle.cellfile.specs.Refusals.{Row, first, fewWords, badSlip, disallowed, badPairing, noPairing}
@@ -27,9 +27,9 @@ use Rattle.cellfile.proofs.Weights.{weigh-sound}
 use Rattle.reduction.specs.Calls.{graphIn, asName, stepsOn, stand, replayShort, reduceSteps}
 use Rattle.reduction.proofs.Courses.{list-graph}
 use Rattle.lifting.specs.Calls.{graphAfter, bySteps, slipRows, liftFile, solveFile, pairingFile, pairing}
-use Rattle.claims.specs.Demand.{AcceptedList, Allowed, Liftable}
+use Rattle.claims.specs.Demand.{AcceptedList, shortOf, PairingOf, Allowed, Liftable}
 use Rattle.claims.specs.Claims.{leftCells, reduceSlip, reduceShort, Wrote, ZeroTells, Eight, RefusalsTell}
-use Rattle.claims.proofs.Slips.{named, by-steps, after-pairing}
+use Rattle.claims.proofs.Slips.{named, after, by-steps, pairing-after, after-pairing}
 use Rattle.claims.proofs.Demand.{roomRow, replayRows, liftRows, reduceRows, stands}
 use Rattle.claims.proofs.Solved.{solveRows, countIn, same-count}
 use Rattle.claims.proofs.Paired.{pairRows, same-left}
@@ -84,12 +84,12 @@ liftable-of list slip pairing h f e =
 
 pub zero-tells : ZeroTells
 zero-tells = record {
-  replays = λ list slip lent room i e. (
+  replay = λ list slip lent room i e. (
       let a =
       call-sound list lent (replayRows list slip room) (i ∷ []) (length (replayShort list slip) ∷ []) (omega arith) e in
       (allowed-of list slip (a .1) (a .2 .0) (a .2 .1 .0), wrote (a .0) (a .2 .1 .1 .0) (a .3))
       );
-  lifts = λ list slip pairing lent room i e. (
+  lift = λ list slip pairing lent room i e. (
       let a =
       call-sound list lent (liftRows list slip pairing room) (i ∷ []) (length (liftFile list slip pairing) ∷ [])
       (omega arith) e in
@@ -99,8 +99,8 @@ zero-tells = record {
         wrote (a .0) (a .2 .1 .1 .1 .1 .0) (a .3),
       )
       );
-  weighs = weigh-sound;
-  reduces = λ list lent slipRoom shortRoom i j e. (
+  weigh = weigh-sound;
+  reduce = λ list lent slipRoom shortRoom i j e. (
       let a =
       call-sound list lent (reduceRows list slipRoom shortRoom) (i ∷ j ∷ [])
       (length (reduceSlip list) ∷ length (reduceShort list) ∷ []) (omega arith) e in
@@ -110,7 +110,7 @@ zero-tells = record {
         record { words = a .0; fits = r .1; value = ap (λ (vs : List ℕ). getD vs 1 0) (a .3) },
       )
       );
-  solves = λ list slip lent room i e. (
+  solve = λ list slip lent room i e. (
       let a =
       call-sound list lent (solveRows list slip room) (i ∷ []) (length (solveFile list slip) ∷ []) (omega arith) e in
       let h = allowed-of list slip (a .1) (a .2 .0) (a .2 .1 .0) in (
@@ -119,7 +119,7 @@ zero-tells = record {
         wrote (a .0) (a .2 .1 .1 .1 .0) (a .3),
       )
       );
-  pairs = λ list lent room i e. (
+  pair = λ list lent room i e. (
       let a = call-sound list lent (pairRows list room) (i ∷ []) (length (pairingFile list) ∷ []) (omega arith) e in (
         a .1,
         ltb-false 12 (leftCells list (reduceSlip list)) (ap crowded (sym (same-left list (a .1))) ∙ a .2 .0),
@@ -128,7 +128,7 @@ zero-tells = record {
       );
 }
 
--- ---- the answers 8 and 11
+-- ---- the answers 8, 10 and 11
 
 -- some step is not allowed where it stands just where the slip does not stand
 some-not : (list slip : List ℕ) → AcceptedList list
@@ -162,6 +162,29 @@ eight list slip more values p lent room = (
         call-refused list lent ((7, badSlip (cellsOf list) slip) ∷ []) (more room) 8 (disallowed (stand list) slip) values
         (omega arith) ((λ e. omega arith), tt) (p room)
 
+-- refusal 10 is for the graph left, which has the pairings of the short list
+not-there : (list slip pairing : List ℕ) (h : Allowed list slip)
+    → (noPairing (bySteps list slip (graphIn list) (graphAfter list)) (pairsOf pairing) ≡ true)
+    ↔ (PairingOf (shortOf (replayShort list slip)) (pairsOf pairing) → ⊥)
+not-there list slip pairing h = (
+  (λ e p. true≢false (sym (sym same ∙ e) ∙ ap not (pairing-is left-graph m (pairing-after list slip h m p)))),
+  (λ n. same ∙ ap not (go (isPairing left-graph m) refl n)),
+)
+  where
+    m : List Pair
+    m = pairsOf pairing
+
+    left-graph : Points
+    left-graph = after list slip h
+
+    same : noPairing (bySteps list slip (graphIn list) (graphAfter list)) m ≡ noPairing left-graph m
+    same = ap (λ (w : Points). noPairing w m) (by-steps list slip h (graphIn list) (graphAfter list))
+
+    go : (t : Bool) → isPairing left-graph m ≡ t → (PairingOf (shortOf (replayShort list slip)) m → ⊥)
+        → isPairing left-graph m ≡ false
+    go true e n = absurd (n (after-pairing list slip h m (is-pairing left-graph m e)))
+    go false e n = e
+
 pub refusals-tell : RefusalsTell
 refusals-tell = record {
   eight = λ list slip. (
@@ -175,6 +198,26 @@ refusals-tell = record {
         (length (liftFile list slip pairing) ∷ [])
         (λ room. ((λ e. omega arith), ((λ e. omega arith), ((λ e. omega arith), tt))))),
   );
+  ten-lift = λ list slip pairing lent room. (
+      let just =
+      call-refused list lent (slipRows list slip ++ (9, badPairing (cellsOf list) pairing) ∷ [])
+      (roomRow room (liftFile list slip pairing) ∷ []) 10
+      (noPairing (bySteps list slip (graphIn list) (graphAfter list)) (pairsOf pairing))
+      (length (liftFile list slip pairing) ∷ []) (omega arith)
+      ((λ e. omega arith), ((λ e. omega arith), ((λ e. omega arith), tt))) ((λ e. omega arith), tt) in (
+        (λ e. (
+            let s = just .0 e in
+            let h = allowed-of list slip (s .1) (s .2 .0) (s .2 .1 .0) in
+            (s .0, h, s .2 .1 .1 .0, not-there list slip pairing h .0 (s .3))
+            )),
+        (λ s. just .1 (
+          s .0,
+          s .1 .accepted,
+          (s .1 .formed, (ap not (stands list slip (s .1)), (s .2, tt))),
+          not-there list slip pairing (s .1) .1 (s .3),
+        )),
+      )
+      );
   eleven-solve = λ list slip lent room. (
       let just =
       call-refused list lent (slipRows list slip) (roomRow room (solveFile list slip) ∷ []) 11

@@ -19,7 +19,7 @@ use Rattle.matching.proofs.Published.{weightless, slip-published}
 use Rattle.matching.proofs.Reduce.{replay-is, carried-sum, reduce-in-turn}
 use Rattle.matching.proofs.Ways.{slip-lifts}
 use Rattle.cellfile.specs.Files.{cellsOf, pairsOf}
-use Rattle.cellfile.specs.Refusals.{fewWords, badPairing, shortOutput}
+use Rattle.cellfile.specs.Refusals.{fewWords, shortOutput}
 use Rattle.cellfile.proofs.Layers.{call-passes}
 use Rattle.cellfile.proofs.Weights.{weigh-passes}
 use Rattle.cellfile.proofs.Written.{list-passes, list-cells, list-written}
@@ -55,7 +55,7 @@ every-slip list h rs ss p =
     record {
       allowed = a;
       names = slip-names list h rs ss allowed;
-      replays = demand-three list _ a .0;
+      taken = demand-three list _ a .0;
       longest = slip-longest list h rs ss allowed;
     }
 
@@ -69,7 +69,7 @@ every-pairing list slip h m p =
     record {
       liftable = l;
       pairs = file-read le g m p;
-      lifts = demand-three list slip h .2 (pairFile (cellsOf list) m) l .0;
+      taken = demand-three list slip h .2 (pairFile (cellsOf list) m) l .0;
       longest = file-longest le g m p;
     }
 
@@ -111,7 +111,7 @@ lift-claim list slip pairing h p =
       );
       weighs = λ lent enough. (
           weigh-passes list (liftFile list slip pairing) lent enough (h .accepted)
-          (ap (badPairing (cellsOf list)) (same-lifted list slip h pairing p) ∙ file-formed le g up held)
+          (keeps .formed)
           (ap not (pairing-is (joined (storeOf list)) (pairsOf (liftFile list slip pairing)) (keeps .pairs)))
           ∙ ap (λ (i : ℕ). (0, i ∷ [])) (keeps .exact)
           );

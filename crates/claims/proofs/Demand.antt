@@ -23,7 +23,7 @@ use Rattle.reduction.proofs.Loading.{list-accepted}
 use Rattle.reduction.proofs.Courses.{list-graph}
 use Rattle.lifting.specs.Calls.{graphAfter, liftedFile, bySteps, slipRows, liftFile, lifting, solution}
 use Rattle.lifting.proofs.Solution.{solution-heaviest}
-use Rattle.lifting.proofs.Filing.{file-read, all-entries, lifted-pairing, heaviest-lifted}
+use Rattle.lifting.proofs.Filing.{file-read, file-formed, all-entries, lifted-pairing, heaviest-lifted}
 use Rattle.claims.specs.Demand.{storeOf, shortOf, PairingOf, HeaviestOf, Writes}
 use Rattle.claims.specs.Demand.{Allowed, Liftable, ShortKeeps, LiftKeeps, DemandThree}
 use Rattle.claims.specs.Claims.{reduceSlip, reduceShort}
@@ -91,7 +91,7 @@ module _ (list slip : List ℕ) (h : Allowed list slip) where
         );
     of-store = (_, store-heaviest (solution (cellsOf list) (after list slip h)) some-heaviest);
     of-short = (_, some-heaviest);
-    steps = omega (
+    few-steps = omega (
       arith,
       whole .steps,
       replay-fits (list-graph list (h .accepted)) (rs list slip h) (h .steps) (taken list slip h) .1,
@@ -134,6 +134,9 @@ module _ (list slip : List ℕ) (h : Allowed list slip) where
 
     pub lift-keeps : LiftKeeps list (replayShort list slip) pairing (liftFile list slip pairing)
     lift-keeps = record {
+      formed = ap (badPairing (cellsOf list)) same-lifted
+          ∙ file-formed (list-accepted list (h .accepted) .0) (all-entries list (h .accepted))
+          (lift (graphIn list) (h .steps) m) store-pairing;
       pairs = subst (PairingOf (storeOf list)) (sym lifted-is) (whole .exact m fits .0);
       exact =
           ap (points (storeOf list)) lifted-is

@@ -1,7 +1,7 @@
 -- `ask` by what its three calls did. In order: a file read again from its output, and buffers cleared twice; what `ask`
--- is given, what each call did with it and what `ask` promises (`Given`, `ReplayDid`, `LiftDid`, `WeighDid`, `Promised`);
--- where replay, lift or weigh refuses (`replay-refused`, `lift-refused`, `weigh-refused`); where all three answer,
--- demand 3 holds of what they answered and wrote (`all-answered`, by `told`). Assumes nothing.
+-- is given, what each call did with it and what `ask` promises (`Given`, `ReplayDid`, `LiftDid`, `WeighDid`,
+-- `Promised`); where replay, lift or weigh refuses (`replay-refused`, `lift-refused`, `weigh-refused`); where all three
+-- answer, demand 3 holds of what they answered and wrote (`all-answered`). Assumes nothing.
 use mathlib.Core.Path.{_≡_, refl, sym, ap, ap₂, subst, _∙_}
 use mathlib.Core.List.{List, [], _∷_, _++_}
 use Prim.Native.Nat.{ℕ, zero, suc, _≤_, _<_}
@@ -179,7 +179,7 @@ module _ (g : Given) where
 
         lift-zero : Allowed (g .list) (g .slip) × Liftable (g .list) (g .slip) (g .pairing)
             × Wrote (liftFile (g .list) (g .slip) (g .pairing)) words (length (g .lifted)) j
-        lift-zero = zero-tells .lifts (g .list) (g .slip) (g .pairing) words (length (g .lifted)) j (lifts-here l)
+        lift-zero = zero-tells .lift (g .list) (g .slip) (g .pairing) words (length (g .lifted)) j (lifts-here l)
 
         pub lift-room : j ≤ length (g .lifted)
         lift-room = let w = lift-zero .2 in omega (arith, w .fits, w .value)
@@ -208,9 +208,9 @@ module _ (g : Given) where
 
         -- ---- weigh answers p
 
-        told : {z : Answer} {p : ℕ} {a‴ b‴ : List ℕ} → z ≡ (0, p ∷ []) → WeighDid lifted′ a″ b″ j z a‴ b‴
+        keeps-all : {z : Answer} {p : ℕ} {a‴ b‴ : List ℕ} → z ≡ (0, p ∷ []) → WeighDid lifted′ a″ b″ j z a‴ b‴
             → Told (g .list) (g .slip) (g .pairing) (take i short′) (take j lifted′) p
-        told {p = p} d v =
+        keeps-all {p = p} d v =
             subst (λ (f : List ℕ). Told (g .list) (g .slip) (g .pairing) f (take j lifted′) p) (sym short-is)
             (subst (λ (f : List ℕ). Told (g .list) (g .slip) (g .pairing) short-file f p) (sym lifted-again) kept)
           where
@@ -218,7 +218,7 @@ module _ (g : Given) where
             short-is =
                 ap (take i) (r .1 .0)
                 ∙ file-again short-file (g .short) i
-                (zero-tells .replays (g .list) (g .slip) words (length (g .short)) i (sym (r .0)) .1 .value)
+                (zero-tells .replay (g .list) (g .slip) words (length (g .short)) i (sym (r .0)) .1 .value)
 
             kept : Told (g .list) (g .slip) (g .pairing) short-file lift-file p
             kept =
@@ -227,7 +227,7 @@ module _ (g : Given) where
                 let keeps = three .2 (g .pairing) (h .1) .1 in
                 record {
                   exactly =
-                      zero-tells .weighs (g .list) lift-file (lent a″ b″) p
+                      zero-tells .weigh (g .list) lift-file (lent a″ b″) p
                       (ap (λ (f : List ℕ). weighing (g .list) f (lent a″ b″)) (sym lifted-again) ∙ sym (v .0) ∙ d) .3
                       ∙ keeps .exact;
                   short-keeps = three .1;
@@ -238,5 +238,5 @@ module _ (g : Given) where
             → Promised (Answered i j p) short′ lifted′ a‴ b‴
         all-answered d v = (
           sym (ap (ended (i ∷ []) (j ∷ [])) d) ∙ weighs-next v,
-          (outs l, (told d v, clear-again (g .a) (g .b) clear (v .1))),
+          (outs l, (keeps-all d v, clear-again (g .a) (g .b) clear (v .1))),
         )

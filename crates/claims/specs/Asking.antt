@@ -1,5 +1,5 @@
 -- What a function that calls replay, lift and weigh one after the other answers and writes, and what it is told: demand
--- 3 of the very bytes that the calls wrote and of the points that weigh answered. Law: proofs/Telling, `told`.
+-- 3 of the very bytes that the calls wrote and of the points that weigh answered. Law: proofs/Telling, `all-answered`.
 use mathlib.Core.Path.{_≡_}
 use mathlib.Core.List.{List, [], _∷_, _++_}
 use Prim.Native.Nat.{ℕ, _+_}
@@ -17,9 +17,9 @@ use Rattle.claims.specs.declared.Asked.the-variants.{Refused, Answered}
 -- The number and the values of each case of the answer.
 abbrev pub asked : Asked → Answer
 asked (Refused k) = (k, [])
-asked (Answered short lifted points) = (0, short ∷ lifted ∷ points ∷ [])
+asked (Answered i j p) = (0, i ∷ j ∷ p ∷ [])
 
--- The next call with the values so far; a refusal has none.
+-- The next call, with the values of this one; a refusal has none and ends.
 abbrev pub andThen : Answer → (List ℕ → Answer) → Answer
 andThen (k, []) next = (k, [])
 andThen (k, v ∷ vs) next = next (v ∷ vs)
@@ -37,13 +37,13 @@ asking list slip pairing lent shortRoom liftedRoom =
     andThen (weighing list (liftFile list slip pairing) lent) (λ p. (0, i ++ j ++ p))))
 
 -- Of the list, slip and pairing that were read, the short list and the lifted pairing that were written, and the points
--- that weigh answered: they are the short pairing's points plus the carried points, and the rest of demand 3 holds.
+-- that weigh answered: these points are the short pairing's plus the carried points, and the rest of demand 3 holds.
 pub record Told (list slip pairing short lifted : List ℕ) (weighed : ℕ) : Type 0 where
   pub exactly : weighed ≡ points (shortOf short) (pairsOf pairing) + carriedOf short
   pub short-keeps : ShortKeeps list slip short
   pub lift-keeps : LiftKeeps list short pairing lifted
 
--- Where all three answer, of as much of the outputs as replay and lift answered.
+-- That, where all three answer, of the first bytes of the outputs, as many as replay and lift answered.
 abbrev pub Tells : (list slip pairing short lifted : List ℕ) → Asked → Type 0
 Tells list slip pairing short lifted (Refused k) = Unit {0}
 Tells list slip pairing short lifted (Answered i j p) = Told list slip pairing (take i short) (take j lifted) p

@@ -1,7 +1,7 @@
--- What the calls say together, of the files that they read and write, beside demand 3. In order: what the answers 0, 8
--- and 11 tell; the hypotheses of demand 3 are met, by every well-formed list, every sequence of steps that are allowed
--- and every pairing of the short list; the files of replay and lift, by the published rules and the ties; reduce;
--- solve; pair. Laws: proofs/Answers (`zero-tells`, `refusals-tell`), proofs/Claims (`met`, `replay-claim`,
+-- What the calls say together, of the files that they read and write, beside demand 3. In order: what the answers 0, 8,
+-- 10 and 11 tell; the hypotheses of demand 3 are met, by every well-formed list, every sequence of steps that are
+-- allowed and every pairing of the short list; the files of replay and lift, by the published rules and the ties;
+-- reduce; solve; pair. Laws: proofs/Answers (`zero-tells`, `refusals-tell`), proofs/Claims (`met`, `replay-claim`,
 -- `lift-claim`, `reduce-claim`), proofs/Solved (`solve-claim`), proofs/Paired (`pair-claim`).
 use mathlib.Core.Path.{_≡_}
 use mathlib.Core.Logic.{_↔_}
@@ -38,7 +38,7 @@ reduceShort list = shortFile list (reduceSteps list)
 abbrev pub leftCells : (list slip : List ℕ) → ℕ
 leftCells list slip = cellsLeft (cellsOf list) (listed (shortOf (replayShort list slip)))
 
--- ---- what the answers 0, 8 and 11 tell
+-- ---- what the answers 0, 8, 10 and 11 tell
 
 -- A call answered the length i of a file: it had the buffers, and room for the file.
 pub record Wrote (file lent : List ℕ) (room i : ℕ) : Type 0 where
@@ -46,21 +46,21 @@ pub record Wrote (file lent : List ℕ) (room i : ℕ) : Type 0 where
   pub fits : length file ≤ room
   pub value : i ≡ length file
 
--- The answer 0: nothing was refused.
+-- The answer 0, by call: nothing was refused.
 pub record ZeroTells : Type 0 where
-  pub replays : (list slip lent : List ℕ) (room i : ℕ) → replaying list slip lent room ≡ (0, i ∷ [])
+  pub replay : (list slip lent : List ℕ) (room i : ℕ) → replaying list slip lent room ≡ (0, i ∷ [])
       → Allowed list slip × Wrote (replayShort list slip) lent room i
-  pub lifts : (list slip pairing lent : List ℕ) (room i : ℕ) → lifting list slip pairing lent room ≡ (0, i ∷ [])
+  pub lift : (list slip pairing lent : List ℕ) (room i : ℕ) → lifting list slip pairing lent room ≡ (0, i ∷ [])
       → Allowed list slip × Liftable list slip pairing × Wrote (liftFile list slip pairing) lent room i
-  pub weighs : (list pairing lent : List ℕ) (p : ℕ) → weighing list pairing lent ≡ (0, p ∷ [])
+  pub weigh : (list pairing lent : List ℕ) (p : ℕ) → weighing list pairing lent ≡ (0, p ∷ [])
       → AcceptedList list × (badPairing (cellsOf list) pairing ≡ false)
       × PairingOf (storeOf list) (pairsOf pairing) × (p ≡ points (storeOf list) (pairsOf pairing))
-  pub reduces : (list lent : List ℕ) (slipRoom shortRoom i j : ℕ)
+  pub reduce : (list lent : List ℕ) (slipRoom shortRoom i j : ℕ)
       → reducing list lent slipRoom shortRoom ≡ (0, i ∷ j ∷ [])
       → AcceptedList list × Wrote (reduceSlip list) lent slipRoom i × Wrote (reduceShort list) lent shortRoom j
-  pub solves : (list slip lent : List ℕ) (room i : ℕ) → solving list slip lent room ≡ (0, i ∷ [])
+  pub solve : (list slip lent : List ℕ) (room i : ℕ) → solving list slip lent room ≡ (0, i ∷ [])
       → Allowed list slip × (leftCells list slip ≤ 12) × Wrote (solveFile list slip) lent room i
-  pub pairs : (list lent : List ℕ) (room i : ℕ) → pairing list lent room ≡ (0, i ∷ [])
+  pub pair : (list lent : List ℕ) (room i : ℕ) → pairing list lent room ≡ (0, i ∷ [])
       → AcceptedList list × (leftCells list (reduceSlip list) ≤ 12) × Wrote (pairingFile list) lent room i
 
 -- 8 just where 'some step of the slip is not allowed where it stands', and nothing before it is refused.
@@ -70,10 +70,14 @@ Eight list slip call =
     ↔ ((fewWords lent ≡ false) × AcceptedList list × (badSlip (cellsOf list) slip ≡ false)
     × SomeStepNot (cellsOf list) (graphIn list) (map asName (stepsOf slip)))
 
--- 11 just where 'more than 12 cells have pairs left', and nothing before it is refused.
+-- 10 just where the pairing is not one of the short list, 11 just where 'more than 12 cells have pairs left', and
+-- nothing before it is refused.
 pub record RefusalsTell : Type 0 where
   pub eight : (list slip : List ℕ) → Eight list slip (replaying list slip) × Eight list slip (solving list slip)
       × ((pairing : List ℕ) → Eight list slip (lifting list slip pairing))
+  pub ten-lift : (list slip pairing lent : List ℕ) (room : ℕ) → (lifting list slip pairing lent room ≡ (10, []))
+      ↔ ((fewWords lent ≡ false) × Allowed list slip × (badPairing (cellsOf list) pairing ≡ false)
+      × (PairingOf (shortOf (replayShort list slip)) (pairsOf pairing) → ⊥))
   pub eleven-solve : (list slip lent : List ℕ) (room : ℕ) → (solving list slip lent room ≡ (11, []))
       ↔ ((fewWords lent ≡ false) × Allowed list slip × (12 < leftCells list slip))
   pub eleven-pair : (list lent : List ℕ) (room : ℕ) → (pairing list lent room ≡ (11, []))
@@ -101,18 +105,19 @@ pub record ListClaim (n : ℕ) (es : List Entry) : Type 0 where
 pub record SlipClaim (list : List ℕ) (ss : List Step) : Type 0 where
   pub allowed : Allowed list (slipFile list ss)
   pub names : Names list (slipFile list ss) ss
-  pub replays : Writes (replaying list (slipFile list ss)) (replayShort list (slipFile list ss))
+  pub taken : Writes (replaying list (slipFile list ss)) (replayShort list (slipFile list ss))
   pub longest : length (slipFile list ss) ≤ 2052
 
 -- Pairs written as a pairing, of at most 1,540 bytes: they are read in file order, and lift takes them.
 pub record PairingClaim (list slip : List ℕ) (m : List Pair) : Type 0 where
   pub liftable : Liftable list slip (pairFile (cellsOf list) m)
   pub pairs : pairsOf (pairFile (cellsOf list) m) ≡ filed m
-  pub lifts : Writes (lifting list slip (pairFile (cellsOf list) m)) (liftFile list slip (pairFile (cellsOf list) m))
+  pub taken : Writes (lifting list slip (pairFile (cellsOf list) m)) (liftFile list slip (pairFile (cellsOf list) m))
   pub longest : length (pairFile (cellsOf list) m) ≤ 1540
 
--- There is one for every list that is well-formed, every sequence of steps that are allowed, each where it stands, and
--- every pairing of the short list. So no hypothesis is empty: no step at all, and the empty pairing, always serve.
+-- Such a file is there for every list that is well-formed, every sequence of steps that are allowed, each where it
+-- stands, and every pairing of the short list. So no hypothesis is empty: no step at all, and the empty pairing, always
+-- serve.
 pub record Met : Type 0 where
   pub lists : (n : ℕ) (es : List Entry) → WellFormed n es → ListClaim n es
   pub slips : (list : List ℕ) → AcceptedList list → (rs : List (Rule × ℕ)) (ss : List Step)

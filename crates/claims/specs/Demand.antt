@@ -2,8 +2,8 @@
 -- `DemandThree`, at the end; law: `demand-three`, proofs/Demand. It speaks of the calls replay and lift and of the
 -- files that they read and write: the store is the entries of the list, the short list and the carried points are read
 -- from the file that replay writes, the pairs of a pairing from its file. What the calls answer and write is in the
--- crates `reduction` and `lifting`, specs/Calls. That an answer of 0 gives the hypotheses, and that they are met: see
--- Claims.
+-- crates `reduction` and `lifting`, specs/Calls; that a call which answers 0 has written its file is its promise
+-- `output`. That an answer of 0 gives the hypotheses, and that they are met: see Claims.
 use mathlib.Core.Path.{_≡_}
 use mathlib.Core.Bool.{false}
 use mathlib.Core.List.{List, [], _∷_, map}
@@ -44,8 +44,8 @@ HeaviestOf es m = Heaviest (joined es) (listed es) m
 abbrev pub Names : (list slip : List ℕ) → List Step → Type 0
 Names list slip ss = AreSteps (cellsOf list) (graphIn list) (map asName (stepsOf slip)) ss
 
--- 'Given the buffers and room that refusals 1 and 12 ask' a call answers 0 and the length of its file, and so writes
--- it. The call is its answer for the lengths of the work buffers and of the output.
+-- 'Given the buffers and room that refusals 1 and 12 ask' a call answers 0 and the length of its file: by its promise
+-- it has then written the file. The call is its answer for the lengths of the work buffers and of the output.
 abbrev pub Writes : (List ℕ → ℕ → Answer) → List ℕ → Type 0
 Writes call file =
     (lent : List ℕ) (room : ℕ) → fewWords lent ≡ false → length file ≤ room
@@ -75,12 +75,13 @@ pub record ShortKeeps (list slip short : List ℕ) : Type 0 where
       → points (storeOf list) a ≡ points (shortOf short) b + carriedOf short
   pub of-store : (a : List Pair) × HeaviestOf (storeOf list) a
   pub of-short : (b : List Pair) × HeaviestOf (shortOf short) b
-  pub steps : length (stepsOf slip) ≤ cellsOf list
+  pub few-steps : length (stepsOf slip) ≤ cellsOf list
 
--- '.. a pairing of the store whose points are exactly the short pairing's plus the carried points'; 'if the short
--- pairing is some points below the heaviest short one, the lifted is just as many below the heaviest of the store'. So
--- a heaviest one is lifted to a heaviest one.
+-- '.. a pairing of the store', which refusal 9 finds no fault with, 'whose points are exactly the short pairing's plus
+-- the carried points'; 'if the short pairing is some points below the heaviest short one, the lifted is just as many
+-- below the heaviest of the store'. So a heaviest one is lifted to a heaviest one.
 pub record LiftKeeps (list short pairing lifted : List ℕ) : Type 0 where
+  pub formed : badPairing (cellsOf list) lifted ≡ false
   pub pairs : PairingOf (storeOf list) (pairsOf lifted)
   pub exact : points (storeOf list) (pairsOf lifted) ≡ points (shortOf short) (pairsOf pairing) + carriedOf short
   pub level : (a b : List Pair) (d : ℕ) → HeaviestOf (storeOf list) a → HeaviestOf (shortOf short) b

@@ -23,7 +23,7 @@ pub enum Asked {
 }
 
 // Replays the slip, lifts the pairing and weighs what is lifted. Every word of the work buffers is zero afterwards.
-pub fn ask(
+fn ask(
     list: &[u8],
     slip: &[u8],
     pairing: &[u8],

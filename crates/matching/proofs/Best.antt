@@ -191,14 +191,14 @@ module _ (off : List ℕ) (e : Pair) (es m : List Pair) (p : Within off (e ∷ e
   within-out = record {
     among = without-in (e .0) (e .1) m es (p .among);
     once = without-once (e .0) (e .1) m (p .once);
-    free = λ c h. without-none (e .0) (e .1) m c (p .free c h);
+    unpaired = λ c h. without-none (e .0) (e .1) m c (p .unpaired c h);
   }
 
   pub within-in : 1 ≤ held → Within (both e off) es rest
   within-in h = record {
     among = within-out .among;
     once = within-out .once;
-    free = both-all (λ c. sum (hit c) rest ≡ 0) e off (at (e .0) (inl refl)) (at (e .1) (inr refl)) (within-out .free);
+    unpaired = both-all (λ c. sum (hit c) rest ≡ 0) e off (at (e .0) (inl refl)) (at (e .1) (inr refl)) (within-out .unpaired);
   }
     where
       at : (c : ℕ) → (e .0 ≡ c) ⊎ (e .1 ≡ c) → sum (hit c) rest ≡ 0
@@ -206,8 +206,8 @@ module _ (off : List ℕ) (e : Pair) (es m : List Pair) (p : Within off (e ∷ e
 
   -- a barred pair is not held
   pub within-barred : Meets off (e .0) (e .1) → held ≡ 0
-  within-barred (inl h) = omega (arith, p .free (e .0) h, like-hit (e .0) (e .1) m (e .0) (inl refl))
-  within-barred (inr h) = omega (arith, p .free (e .1) h, like-hit (e .0) (e .1) m (e .1) (inr refl))
+  within-barred (inl h) = omega (arith, p .unpaired (e .0) h, like-hit (e .0) (e .1) m (e .0) (inl refl))
+  within-barred (inr h) = omega (arith, p .unpaired (e .1) h, like-hit (e .0) (e .1) m (e .1) (inr refl))
 
 pub best-most : (w : Points) → Turned w → (es : List Pair) (off : List ℕ) (m : List Pair) → Within off es m
     → sum w m ≤ H w off es

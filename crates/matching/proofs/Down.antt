@@ -51,7 +51,7 @@ module _ {n : ℕ} {w : Points} (g : Graph n w) {u : ℕ} {inner : List ℕ} {v 
   in-most off taken = best-most w (g .turned) row off in-part record {
     among = each-keep (λ a b. mem a inner || mem b inner) in-row m (p .held);
     once = λ c. omega (arith, parts (hit c), p .once c);
-    free = λ c h. omega (arith, taken c h, parts (hit c), p .once c);
+    unpaired = λ c h. omega (arith, taken c h, parts (hit c), p .once c);
   }
     where
       at : (a b : ℕ) → 0 < w a b → Meets inner a b → In row a b

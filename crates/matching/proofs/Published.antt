@@ -9,20 +9,21 @@ use Prim.Native.Nat.{ℕ, _-_, _≤_, _<_, max, suc}
 use native.Mathlib.Omega.{arith}
 use lib.ListN.{length}
 use Rattle.matching.specs.Lists.{mem}
-use Rattle.matching.specs.Pairs.{Pair, Points, touches}
+use Rattle.matching.specs.Pairs.{Pair, Points, Each, touches}
 use Rattle.matching.specs.Listed.{Entry, Accepted, listed}
-use Rattle.matching.specs.Graph.{Graph, put, dropped}
+use Rattle.matching.specs.Graph.{Graph, degree, put, dropped}
 use Rattle.matching.specs.Best.{H, walk}
 use Rattle.matching.specs.Steps.{Rule, by-leaf, by-ring, by-chain, Step, leaf, ring, chain}
 use Rattle.matching.specs.Steps.{leafed, ringed, chained}
-use Rattle.matching.specs.Shapes.{IsRow, IsLeaf, IsRing, IsChain, IsStep}
+use Rattle.matching.specs.Shapes.{first, last, IsRow, IsLeaf, IsRing, IsChain, IsStep}
 use Rattle.matching.specs.Slip.{AreSteps}
 use Rattle.matching.specs.Published.{Rule23, Rule24, Part, Removed, Rule25, Rule26}
 use Rattle.matching.specs.Published.{Published, AllPublished}
 use Rattle.matching.proofs.Alls.{all-map, all-has}
 use Rattle.matching.proofs.Pairing.{present}
 use Rattle.matching.proofs.Entries.{has-listed, listed-none, list-pairing, list-trimmed}
-use Rattle.matching.proofs.Tests.{Test, pass, fail, fails}
+use Rattle.matching.proofs.Tests.{Test, pass, fail, eqT, fails}
+use Rattle.matching.proofs.Partners.{partners-more-than-one}
 use Rattle.matching.proofs.Pairs.{Same, sameT}
 use Rattle.matching.proofs.Members.{mem-apart, mem-head, mem-one, or-left}
 use Rattle.matching.proofs.Sums.{touchesT}
@@ -62,6 +63,16 @@ dropped-at cs w c a h = ap (λ (t : Bool). cond t 0 (w c a)) (or-left (mem c cs)
 walk-length : (u : ℕ) (cs : List ℕ) (v : ℕ) → length (walk u cs v) ≡ suc (length cs)
 walk-length u [] v = refl
 walk-length u (c ∷ cs) v = ap suc (walk-length c cs v)
+
+-- The first and the last pair of a walk.
+walk-first : (w : Points) (u : ℕ) (cs : List ℕ) (v : ℕ) → 1 < length cs
+    → Each (λ a b. 0 < w a b) (walk u cs v) → 0 < w u (first u cs)
+walk-first w u [] v l p = (let z : ⊥ = omega arith in absurd z)
+walk-first w u (c ∷ cs) v l p = p .0
+
+walk-last : (w : Points) (u : ℕ) (cs : List ℕ) (v : ℕ) → Each (λ a b. 0 < w a b) (walk u cs v) → 0 < w (last u cs) v
+walk-last w u [] v p = p .0
+walk-last w u (c ∷ cs) v p = walk-last w c cs v (p .1)
 
 row-part : {n : ℕ} {w : Points} {u : ℕ} {inner : List ℕ} {v : ℕ} → IsRow n w u inner v → Part n w u v inner
 row-part {u = u} {inner} {v} r = record {
@@ -133,9 +144,24 @@ module _ {n : ℕ} {w : Points} (g : Graph n w) where
         end a k (inl q) = mem-apart z u inner (p .low .here) (p .row .first-off) (q .0)
         end a k (inr q) = k (q .1)
 
+    -- u has two partners in the ring
+    ring-end : (3 ≤ degree n w u) ⊎ (degree n w u ≡ 2)
+    ring-end = go (eqT (degree n w u) 2)
+      where
+        two : 1 < degree n w u
+        two =
+            partners-more-than-one g u (first u inner) (last u inner) (λ e. omega (arith, p .towards))
+            (walk-first w u inner u (p .row .more) (p .row .live))
+            (omega (arith, walk-last w u inner u (p .row .live), g .turned u (last u inner)))
+
+        go : {t : Bool} → Test (degree n w u ≡ 2) (degree n w u ≢ 2) t → (3 ≤ degree n w u) ⊎ (degree n w u ≡ 2)
+        go (pass e) = inr e
+        go (fail e) = inl (omega (arith, two))
+
     ring-published : Fits w (ring u z inner) → Rule25 n w (ringed w u z inner) (H w (u ∷ []) cycle) u z inner
     ring-published f = record {
       cycle = row-part (p .row);
+      at = ring-end;
       removed = ring-removed;
       edge = λ c k hc hk. omega (
         arith,

@@ -6,9 +6,10 @@ use mathlib.Core.Path.{_≡_, refl, sym, ap, ap₂, _∙_}
 use mathlib.Core.Logic.{_⊎_, inl, inr, _≢_}
 use mathlib.Core.Bool.{Bool, true, false, not, cond, _&&_, _||_}
 use mathlib.Core.List.{List, [], _∷_, _++_}
-use Prim.Native.Nat.{ℕ, _≤_, _<_}
+use Prim.Native.Nat.{ℕ, _-_, _≤_, _<_}
 use native.Mathlib.Omega.{arith}
 use lib.ListN.{length}
+use borrow.Author.Tests.{lt-ltb}
 use Rattle.matching.specs.Lists.{mem, distinct}
 use Rattle.matching.specs.Pairs.{Pair, Points, ι, sum, Each, keep, same, like, held, without, free}
 use Rattle.matching.specs.Pairing.{Once, Pairing}
@@ -16,7 +17,7 @@ use Rattle.matching.specs.Graph.{Graph}
 use Rattle.matching.specs.Best.{H, best, tie, walk}
 use Rattle.matching.specs.Steps.{Rule, by-leaf, by-ring, by-chain, Step, leaf, ring, chain}
 use Rattle.matching.specs.Steps.{apply, outweighs, undo}
-use Rattle.matching.specs.Ties.{Within, MostOf, Earlier, BestOf, WithBest, Undone, Lifts}
+use Rattle.matching.specs.Ties.{Within, MostOf, Earlier, BestOf, WithBest, Outweighs, Undone, Lifts}
 use Rattle.matching.specs.Shapes.{IsRow, IsRing, IsChain, IsStep}
 use Rattle.matching.specs.Slip.{AreSteps, left, lift}
 use Rattle.matching.proofs.Tests.{Test, pass, fail, ltT, holds, fails}
@@ -25,7 +26,7 @@ use Rattle.matching.proofs.Members.{mem-not, mem-apart, distinct-cons}
 use Rattle.matching.proofs.Sums.{In, in-all, zero-like, each-map, each-zero, like-turned, like-hit, keep-all}
 use Rattle.matching.proofs.Put.{pair-apart}
 use Rattle.matching.proofs.Path.{walk-each}
-use Rattle.matching.proofs.Best.{best-H, best-most, best-each, best-once, best-off}
+use Rattle.matching.proofs.Best.{H-mono, best-H, best-most, best-each, best-once, best-off}
 use Rattle.matching.proofs.Ties.{Differ, best-first}
 use Rattle.matching.proofs.Exact.{step-graph, step-lifted}
 use Rattle.matching.proofs.Find.{is-fits}
@@ -91,7 +92,7 @@ module _ {n : ℕ} {w : Points} (g : Graph n w) {u v : ℕ} {inner : List ℕ} (
   best-within off = record {
     among = best-each (In row) false w off row (in-all row);
     once = best-once false w off row (each-map (λ a b h. pair-apart g a b h) row (r .live));
-    free = best-off false w off row;
+    unpaired = best-off false w off row;
   }
 
   -- The best is a heaviest one, and every heaviest one has the points H.
@@ -287,6 +288,37 @@ module _ {n : ℕ} {w : Points} (g : Graph n w) {u v z : ℕ} {inner : List ℕ}
     uv-vz : uv ≡ true → vz ≡ false
     uv-vz e = other-not m o v u v (inr refl) e v z (inl refl) (differ (inl u≢v) (inl u≢z))
 
+    -- whether the direct pair outweighs the chain, by any heaviest pairings
+    abbrev whole : ℕ
+    whole = H w [] (walk u inner v)
+
+    abbrev inside : ℕ
+    inside = H w (u ∷ v ∷ []) (walk u inner v)
+
+    no-more : inside ≤ whole
+    no-more = omega (arith, H-mono w (walk u inner v) u (v ∷ []), H-mono w (walk u inner v) v [])
+
+    weighs-more : Outweighs w u v inner → t ≡ true
+    weighs-more x =
+        lt-ltb (whole - inside) (w u v)
+        (omega (
+          arith,
+          x (best false w [] (walk u inner v)) (best false w (u ∷ v ∷ []) (walk u inner v)) (row-heaviest g (p .row) [])
+              (row-heaviest g (p .row) (u ∷ v ∷ [])),
+          best-H false w [] (walk u inner v),
+          best-H false w (u ∷ v ∷ []) (walk u inner v),
+          no-more,
+        ))
+
+    weighs-less : (Outweighs w u v inner → ⊥) → t ≡ false
+    weighs-less x =
+        fails (ltT (whole - inside) (w u v)) (λ l. x (λ a b ma mb. omega (
+          arith,
+          l,
+          most-points g (p .row) [] a ma,
+          most-points g (p .row) (u ∷ v ∷ []) b mb,
+        )))
+
     abbrev kept : List Pair
     kept = keep (λ a b. stay (same u z a b) (same v z a b) (same u v a b) t) m
 
@@ -304,12 +336,12 @@ module _ {n : ℕ} {w : Points} (g : Graph n w) {u v z : ℕ} {inner : List ℕ}
           (ap₂ (λ (x y : Bool). offs x y uv t) (vz-uz e) e)
           (keep-same _ _ m (each-map (λ a b q. stay-vz (same u z a b) (same v z a b) (same u v a b) t (q .0) (q .1)) m
           (each-two (Off u z) (Off u v) m (nowhere u z m (vz-uz e)) (nowhere u v m (vz-uv e)))));
-      uv-stays = λ e l. with-best g (p .row) (offs uz vz uv t) (u ∷ v ∷ []) kept m
+      uv-stays = λ e x. let l = weighs-more x in with-best g (p .row) (offs uz vz uv t) (u ∷ v ∷ []) kept m
           (part false false true true (uv-uz e) (uv-vz e) e l)
           (keep-same _ (λ a b. true) m (each-map (λ a b q.
           stay-all (same u z a b) (same v z a b) (same u v a b) t (q .0) (q .1) (inl l)) m
           (each-two (Off u z) (Off v z) m (nowhere u z m (uv-uz e)) (nowhere v z m (uv-vz e)))) ∙ keep-all m);
-      uv-goes = λ e l. with-best g (p .row) (offs uz vz uv t) [] kept (without u v m)
+      uv-goes = λ e x. let l = weighs-less x in with-best g (p .row) (offs uz vz uv t) [] kept (without u v m)
           (part false false true false (uv-uz e) (uv-vz e) e l)
           (keep-same _ _ m (each-map (λ a b q.
           stay-uv (same u z a b) (same v z a b) (same u v a b) t (q .0) (q .1) l) m

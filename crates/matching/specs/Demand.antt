@@ -21,11 +21,11 @@ pub record Exact (n : ℕ) (w w′ : Points) (k : ℕ) (up down : List Pair → 
   pub fewer : cellsLeft n w′ < cellsLeft n w
   pub no-more : length (shortList n w′) ≤ length (shortList n w)
 
--- Demand 3, of the accepted list `store` of n cells and the steps of a slip that is allowed on it. The lifted pairing
--- is a pairing of the store's entries with exactly the short pairing's points and the carried points; a heaviest
--- pairing of the store has exactly the points of a heaviest one of the short list and the carried points; a pairing
--- that is d points below the heaviest short one is lifted to one that is d points below the heaviest of the store; the
--- slip has at most n steps.
+-- Demand 3 over graphs (of files: crate `claims`, specs/Demand), of the accepted list `store` of n cells and the steps
+-- of a slip that is allowed on it. The lifted pairing is a pairing of the store's entries with exactly the short
+-- pairing's points and the carried points; a heaviest pairing of the store has exactly the points of a heaviest one of
+-- the short list and the carried points; a pairing that is d points below the heaviest short one is lifted to one that
+-- is d points below the heaviest of the store; the slip has at most n steps.
 module _ (n : ℕ) (store : List Entry) (ss : List Step) where
   abbrev pub short : Points
   short = left (listed store) ss

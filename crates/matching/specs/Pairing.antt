@@ -30,8 +30,8 @@ mate c a b = cond (eqb a c) (suc b) (cond (eqb b c) (suc a) 0)
 abbrev pub partner : ℕ → List Pair → ℕ
 partner c m = sum (mate c) m
 
--- Of two pairings s comes first, or they have the same partners. 'Look at the lowest cell whose partner differs: unpaired
--- comes first, then the lower partner.'
+-- Of two pairings s comes first, or they have the same partners. 'Look at the lowest cell whose partner differs:
+-- unpaired comes first, then the lower partner.'
 abbrev pub First : List Pair → List Pair → Type 0
 First s m =
     ((d : ℕ) → partner d s ≡ partner d m)

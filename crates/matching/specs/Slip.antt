@@ -26,8 +26,8 @@ AreSteps n w [] (s ∷ ss) = ⊥
 AreSteps n w (r ∷ rs) [] = ⊥
 AreSteps n w (r ∷ rs) (s ∷ ss) = IsStep n w (r .0) (r .1) s × AreSteps n (apply w s) rs ss
 
--- 'Some step of the slip is not allowed where it stands': not the first, or one on the graph that the first leaves. Law:
--- proofs/Reduce, `replay-not`.
+-- 'Some step of the slip is not allowed where it stands': the first is not, or a later one is not on the graph that the
+-- first leaves. Law: proofs/Reduce, `replay-not`.
 abbrev pub SomeStepNot : ℕ → Points → List (Rule × ℕ) → Type 0
 SomeStepNot n w [] = ⊥
 SomeStepNot n w (r ∷ rs) =

@@ -5,18 +5,18 @@ use mathlib.Core.Path.{_≡_}
 use mathlib.Core.Logic.{_⊎_}
 use mathlib.Core.Bool.{Bool, true, false}
 use mathlib.Core.List.{List, [], _∷_, _++_}
-use Prim.Native.Nat.{ℕ, _≤_}
+use Prim.Native.Nat.{ℕ, _+_, _≤_, _<_}
 use Rattle.matching.specs.Lists.{mem}
 use Rattle.matching.specs.Pairs.{Pair, Points, sum, Each, hit, like, without, held, free}
 use Rattle.matching.specs.Pairing.{Once}
 use Rattle.matching.specs.Best.{walk}
-use Rattle.matching.specs.Steps.{Step, leaf, ring, chain, apply, outweighs}
+use Rattle.matching.specs.Steps.{Step, leaf, ring, chain, apply}
 
 -- A pairing m of the pairs es that leaves the cells `off` free: a pairing of X less those cells.
 pub record Within (off : List ℕ) (es m : List Pair) : Type 0 where
   pub among : Each (λ a b. 1 ≤ sum (λ x y. like x y a b) es) m
   pub once : Once m
-  pub free : (c : ℕ) → mem c off ≡ true → sum (hit c) m ≡ 0
+  pub unpaired : (c : ℕ) → mem c off ≡ true → sum (hit c) m ≡ 0
 
 -- A heaviest of these.
 pub record MostOf (w : Points) (off : List ℕ) (es m : List Pair) : Type 0 where
@@ -56,15 +56,20 @@ pub record RingUndone (w : Points) (u z : ℕ) (inner : List ℕ) (m up : List P
   pub uz : held u z m ≡ true → WithBest w [] (walk u inner u) (without u z m) up
   pub none : held u z m ≡ false → WithBest w (u ∷ []) (walk u inner u) m up
 
+-- The 'present points' of u, v are 'greater than H(P) minus H(Q)', where H is the points of any heaviest pairing.
+abbrev pub Outweighs : Points → ℕ → ℕ → List ℕ → Type 0
+Outweighs w u v inner =
+    (p q : List Pair) → MostOf w [] (walk u inner v) p → MostOf w (u ∷ v ∷ []) (walk u inner v) q
+    → sum w p < w u v + sum w q
+
 -- Chain: 'with u, z held, replace it by the best of P less v; with v, z held, by the best of P less u. With u, v held
 -- and its present points greater than H(P) minus H(Q), keep it and add the best of Q; otherwise replace it by the best
 -- of P. With none of the three held, add the best of Q.'
 pub record ChainUndone (w : Points) (u v z : ℕ) (inner : List ℕ) (m up : List Pair) : Type 0 where
   pub uz : held u z m ≡ true → WithBest w (v ∷ []) (walk u inner v) (without u z m) up
   pub vz : held v z m ≡ true → WithBest w (u ∷ []) (walk u inner v) (without v z m) up
-  pub uv-stays : held u v m ≡ true → outweighs w u v inner ≡ true
-      → WithBest w (u ∷ v ∷ []) (walk u inner v) m up
-  pub uv-goes : held u v m ≡ true → outweighs w u v inner ≡ false → WithBest w [] (walk u inner v) (without u v m) up
+  pub uv-stays : held u v m ≡ true → Outweighs w u v inner → WithBest w (u ∷ v ∷ []) (walk u inner v) m up
+  pub uv-goes : held u v m ≡ true → (Outweighs w u v inner → ⊥) → WithBest w [] (walk u inner v) (without u v m) up
   pub none : held u z m ≡ false → held v z m ≡ false → held u v m ≡ false
       → WithBest w (u ∷ v ∷ []) (walk u inner v) m up
 

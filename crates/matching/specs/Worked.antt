@@ -47,7 +47,7 @@ liftedBy n l m ss =
       points = points l up;
     }
 
--- Refusal 8 where a step is not allowed, 10 where the pairing is none of the graph left, or of the list's entries.
+-- Refusal 8 where a step is not allowed, 10 where the pairing is not one of the graph left, or of the list's entries.
 unfoldable pub outcome : Case → Outcome
 outcome (lifting n l s m) =
     elim (stepsOf n l s) [
@@ -116,6 +116,7 @@ rows =
     -- only the cell that the rule calls z: chain 2 is refused, and of the triangle only ring 1 is allowed
     ∷ not-allowed 4 (path 10) ((by-chain, 2) ∷ [])
     ∷ not-allowed 3 ((0, 1, 5) ∷ (0, 2, 4) ∷ (1, 2, 3) ∷ []) ((by-ring, 0) ∷ [])
+    ∷ not-allowed 3 ((0, 1, 5) ∷ (0, 2, 4) ∷ (1, 2, 3) ∷ []) ((by-ring, 2) ∷ [])
     -- a row whose two ends are one cell is no chain
     ∷ not-allowed 4 ((0, 1, 5) ∷ (0, 2, 4) ∷ (0, 3, 1) ∷ (1, 2, 3) ∷ []) ((by-chain, 1) ∷ [])
     -- the ring step at the lowest z, not at the lowest cell of a ring
