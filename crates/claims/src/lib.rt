@@ -1,6 +1,6 @@
 // What the calls promise together, of the files that they read and write: specs/Demand and specs/Claims, with the laws
-// in proofs/. One function, for no caller but the reader: replay, lift and weigh on one list, slip and pairing, and
-// demand 3 of what they themselves answer and write (specs/Asking).
+// in proofs/. One function, private and for no caller but the reader: replay, lift and weigh on one list, slip and
+// pairing, and demand 3 of what they themselves answer and write (specs/Asking).
 use cellfile::Weighed;
 use lifting::Paired;
 use reduction::Replayed;
