@@ -130,8 +130,8 @@ module _ (list lent : List ℕ) (more : List Row) where
   call-sound us values p e =
       let a = answer-accepted (first callRows) us values (sym e) in
       let b =
-      first-none callRows (omega arith, all-append (λ (r : Row). 0 < r .0) (listRows storeList list) more (omega arith) p)
-      (a .0) in
+      first-none callRows
+      (omega arith, all-append (λ (r : Row). 0 < r .0) (listRows storeList list) more (omega arith) p) (a .0) in
       let c = rows-apart (listRows storeList list) more (b .1) in
       (b .0, c .0, c .1, a .1)
 
@@ -162,7 +162,8 @@ call-refused list lent rows more k t values h p q = (to, from)
     to e =
         let a =
         first-at before more k t (omega arith)
-        ((λ e. omega arith), all-append (λ (r : Row). r .0 ≢ k) (listRows storeList list) rows others p) q (number .0 e) in
+        ((λ e. omega arith), all-append (λ (r : Row). r .0 ≢ k) (listRows storeList list) rows others p) q
+        (number .0 e) in
         let b = rows-apart (listRows storeList list) rows (a .0 .1) in
         (a .0 .0, b .0, b .1, a .1)
 
@@ -170,5 +171,6 @@ call-refused list lent rows more k t values h p q = (to, from)
     from s =
         number .1 (first-here before more k t (
           s .0,
-          all-append (λ (r : Row). r .1 ≡ false) (listRows storeList list) rows (list-none storeList list (s .1)) (s .2),
+          all-append (λ (r : Row). r .1 ≡ false) (listRows storeList list) rows (list-none storeList list (s .1))
+              (s .2),
         ) (s .3))

@@ -19,8 +19,8 @@ use Rattle.matching.proofs.Alls.{all-map}
 use Rattle.matching.proofs.Filed.{InOrder}
 use Rattle.matching.proofs.Sums.{each-map, each-all}
 use Rattle.cellfile.specs.Fields.{size, readRecord, writeRecord, writeRecords}
-use Rattle.cellfile.specs.Files.{Layout, storeList, slip, pairing, start, fileLength, File, writeFile, readEntries}
-use Rattle.cellfile.specs.Files.{asEntry, asFields, entriesOf}
+use Rattle.cellfile.specs.Files.{Layout, storeList, slip, pairing, start, fileLength, File, writeFile}
+use Rattle.cellfile.specs.Files.{readEntries, asEntry, asFields, entriesOf}
 use Rattle.cellfile.specs.Files.{header, kindOf, cellsOf, countOf, zerosOf, asPair, stepsOf, pairsOf, pairFields}
 use Rattle.cellfile.specs.Fits.{FitsFields, FitsFile}
 use Rattle.cellfile.specs.Refusals.{first, listRows, notAList, tooLarge, wrongLength, strayPair, strayEntry, key}

@@ -1,6 +1,6 @@
 -- What the answers tell. In order: the answer 0, by call (`zero-tells`); 8, 10 and 11, each just where its condition is
 -- the first that holds (`refusals-tell`). Assumes nothing.
-use mathlib.Core.Path.{_≡_, refl, sym, ap, subst, _∙_}
+use mathlib.Core.Path.{_≡_, refl, sym, ap, _∙_}
 use mathlib.Core.Logic.{_↔_, _≢_}
 use mathlib.Core.Bool.{Bool, true, false, not, false≢true, true≢false}
 use mathlib.Core.List.{List, [], _∷_, _++_, map}
@@ -8,14 +8,11 @@ use mathlib.Core.Option.{Option, some, none}
 use Prim.Native.Nat.{ℕ, _≤_, _<_}
 use native.Mathlib.Omega.{arith}
 use lib.ListN.{length, getD}
-use borrow.Author.Tests.{lt-ltb, ltb-true, ltb-false, not-false}
+use borrow.Author.Tests.{lt-ltb, ltb-true, ltb-false}
 use Rattle.matching.specs.Lists.{All}
-use Rattle.matching.specs.Pairs.{Pair, Points}
-use Rattle.matching.specs.Pairing.{Pairing, isPairing}
 use Rattle.matching.specs.Graph.{cellsLeft}
 use Rattle.matching.specs.Steps.{Step}
 use Rattle.matching.specs.Slip.{SomeStepNot}
-use Rattle.matching.proofs.Pairing.{is-pairing, pairing-is}
 use Rattle.matching.proofs.Reduce.{replay-not}
 use Rattle.cellfile.specs.Files.{cellsOf, stepsOf, pairsOf}
 use Rattle.cellfile.specs.Refusals.{Row, first, fewWords, badSlip, disallowed, badPairing, noPairing}
@@ -27,10 +24,10 @@ use Rattle.cellfile.proofs.Weights.{weigh-sound}
 use Rattle.reduction.specs.Calls.{graphIn, asName, stepsOn, stand, replayShort, reduceSteps}
 use Rattle.reduction.proofs.Courses.{list-graph}
 use Rattle.lifting.specs.Calls.{graphAfter, bySteps, slipRows, liftFile, solveFile, pairingFile, pairing}
-use Rattle.claims.specs.Demand.{AcceptedList, shortOf, PairingOf, Allowed, Liftable}
+use Rattle.claims.specs.Demand.{AcceptedList, Allowed}
 use Rattle.claims.specs.Claims.{leftCells, reduceSlip, reduceShort, Wrote, ZeroTells, Eight, RefusalsTell}
-use Rattle.claims.proofs.Slips.{named, after, by-steps, pairing-after, after-pairing}
-use Rattle.claims.proofs.Demand.{roomRow, replayRows, liftRows, reduceRows, stands}
+use Rattle.claims.proofs.Slips.{named}
+use Rattle.claims.proofs.Demand.{roomRow, replayRows, liftRows, reduceRows, stands, ten-just}
 use Rattle.claims.proofs.Solved.{solveRows, countIn, same-count}
 use Rattle.claims.proofs.Paired.{pairRows, same-left}
 
@@ -60,7 +57,8 @@ steps-there list slip h = go (stepsOn list (stepsOf slip)) refl
     go : (o : Option (List Step)) → stepsOn list (stepsOf slip) ≡ o
         → (ss : List Step) × (stepsOn list (stepsOf slip) ≡ some ss)
     go none e =
-        absurd (true≢false (sym (ap (λ (o : Option (List Step)). not (elim o [ none ↦ false | some ss ↦ true ])) e) ∙ h))
+        absurd (true≢false
+        (sym (ap (λ (o : Option (List Step)). not (elim o [ none ↦ false | some ss ↦ true ])) e) ∙ h))
     go (some ss) e = (ss, e)
 
 allowed-of : (list slip : List ℕ) → AcceptedList list → badSlip (cellsOf list) slip ≡ false
@@ -68,19 +66,6 @@ allowed-of : (list slip : List ℕ) → AcceptedList list → badSlip (cellsOf l
 allowed-of list slip h f s =
     let t = steps-there list slip s in
     record { accepted = h; formed = f; steps = t .0; stand = named list h slip (t .0) .0 (t .1) }
-
--- refusal 10 is for the graph left, which has the pairings of the short list
-liftable-of : (list slip pairing : List ℕ) → Allowed list slip → badPairing (cellsOf list) pairing ≡ false
-    → noPairing (bySteps list slip (graphIn list) (graphAfter list)) (pairsOf pairing) ≡ false
-    → Liftable list slip pairing
-liftable-of list slip pairing h f e =
-    let there = bySteps list slip (graphIn list) (graphAfter list) in
-    record {
-      formed = f;
-      pairs = after-pairing list slip h (pairsOf pairing)
-          (subst (λ (w : Points). Pairing w (pairsOf pairing)) (by-steps list slip h (graphIn list) (graphAfter list))
-          (is-pairing there (pairsOf pairing) (not-false (isPairing there (pairsOf pairing)) e)));
-    }
 
 pub zero-tells : ZeroTells
 zero-tells = record {
@@ -95,7 +80,7 @@ zero-tells = record {
       (omega arith) e in
       let h = allowed-of list slip (a .1) (a .2 .0) (a .2 .1 .0) in (
         h,
-        liftable-of list slip pairing h (a .2 .1 .1 .0) (a .2 .1 .1 .1 .0),
+        record { formed = a .2 .1 .1 .0; pairs = ten-just list slip h (pairsOf pairing) .0 (a .2 .1 .1 .1 .0) },
         wrote (a .0) (a .2 .1 .1 .1 .1 .0) (a .3),
       )
       );
@@ -159,31 +144,13 @@ eight list slip more values p lent room = (
         ↔ ((fewWords lent ≡ false) × AcceptedList list × ((badSlip (cellsOf list) slip ≡ false) × Unit {0})
         × (disallowed (stand list) slip ≡ true))
     just =
-        call-refused list lent ((7, badSlip (cellsOf list) slip) ∷ []) (more room) 8 (disallowed (stand list) slip) values
-        (omega arith) ((λ e. omega arith), tt) (p room)
+        call-refused list lent ((7, badSlip (cellsOf list) slip) ∷ []) (more room) 8 (disallowed (stand list) slip)
+        values (omega arith) ((λ e. omega arith), tt) (p room)
 
--- refusal 10 is for the graph left, which has the pairings of the short list
-not-there : (list slip pairing : List ℕ) (h : Allowed list slip)
-    → (noPairing (bySteps list slip (graphIn list) (graphAfter list)) (pairsOf pairing) ≡ true)
-    ↔ (PairingOf (shortOf (replayShort list slip)) (pairsOf pairing) → ⊥)
-not-there list slip pairing h = (
-  (λ e p. true≢false (sym (sym same ∙ e) ∙ ap not (pairing-is left-graph m (pairing-after list slip h m p)))),
-  (λ n. same ∙ ap not (go (isPairing left-graph m) refl n)),
-)
-  where
-    m : List Pair
-    m = pairsOf pairing
-
-    left-graph : Points
-    left-graph = after list slip h
-
-    same : noPairing (bySteps list slip (graphIn list) (graphAfter list)) m ≡ noPairing left-graph m
-    same = ap (λ (w : Points). noPairing w m) (by-steps list slip h (graphIn list) (graphAfter list))
-
-    go : (t : Bool) → isPairing left-graph m ≡ t → (PairingOf (shortOf (replayShort list slip)) m → ⊥)
-        → isPairing left-graph m ≡ false
-    go true e n = absurd (n (after-pairing list slip h m (is-pairing left-graph m e)))
-    go false e n = e
+-- what holds just where a test fails does not hold just where it passes
+otherwise : {P : Type 0} (t : Bool) → (t ≡ false) ↔ P → (t ≡ true) ↔ (P → ⊥)
+otherwise true e = ((λ q p. true≢false (e .1 p)), λ n. refl)
+otherwise false e = ((λ q. absurd (false≢true q)), λ n. absurd (n (e .0 refl)))
 
 pub refusals-tell : RefusalsTell
 refusals-tell = record {
@@ -208,13 +175,13 @@ refusals-tell = record {
         (λ e. (
             let s = just .0 e in
             let h = allowed-of list slip (s .1) (s .2 .0) (s .2 .1 .0) in
-            (s .0, h, s .2 .1 .1 .0, not-there list slip pairing h .0 (s .3))
+            (s .0, h, s .2 .1 .1 .0, otherwise _ (ten-just list slip h (pairsOf pairing)) .0 (s .3))
             )),
         (λ s. just .1 (
           s .0,
           s .1 .accepted,
           (s .1 .formed, (ap not (stands list slip (s .1)), (s .2, tt))),
-          not-there list slip pairing (s .1) .1 (s .3),
+          otherwise _ (ten-just list slip (s .1) (pairsOf pairing)) .1 (s .3),
         )),
       )
       );

@@ -32,8 +32,8 @@ use Rattle.lifting.proofs.Filing.{file-read, file-pairing, file-formed, file-lo
 use Rattle.claims.specs.Demand.{AcceptedList, storeOf, shortOf, PairingOf, Allowed, Liftable}
 use Rattle.claims.specs.Claims.{WellFormed, ListClaim, SlipClaim, PairingClaim, Met, ReplayClaim, LiftClaim}
 use Rattle.claims.specs.Claims.{reduceSlip, reduceShort, ReduceClaim}
-use Rattle.claims.proofs.Slips.{slip-names, slip-allowed, slip-longest, short-longest, rs, same-file}
-use Rattle.claims.proofs.Slips.{short-is, carried-is, cells-are, replay-longest, short-entries-graph, pairing-after}
+use Rattle.claims.proofs.Slips.{slip-names, slip-allowed, slip-longest, short-longest, rs, same-file, short-is}
+use Rattle.claims.proofs.Slips.{carried-is, cells-are, replay-longest, short-entries-graph, pairing-after}
 use Rattle.claims.proofs.Demand.{reduceRows, same-lifted, store-pairing, lifted-is, demand-three}
 
 -- ---- the hypotheses are met

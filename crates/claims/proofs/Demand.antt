@@ -1,18 +1,19 @@
 -- Demand 3: `demand-three`. In order: refusal 12; where nothing is refused replay and lift answer (`replay-writes`,
 -- `lift-writes`); what the short list keeps (`short-keeps`); what is lifted keeps (`lift-keeps`). Assumes nothing.
 use mathlib.Core.Path.{_≡_, sym, ap, ap₂, subst, _∙_}
+use mathlib.Core.Logic.{_↔_}
 use mathlib.Core.Bool.{true, false, not}
 use mathlib.Core.List.{List, [], _∷_, _++_}
 use Prim.Native.Nat.{ℕ, _+_, _≤_}
 use native.Mathlib.Omega.{arith}
 use lib.ListN.{length, length-map}
-use borrow.Author.Tests.{le-ltb}
+use borrow.Author.Tests.{le-ltb, not-false}
 use Rattle.matching.specs.Pairs.{Pair, Points, sum}
-use Rattle.matching.specs.Pairing.{Pairing}
+use Rattle.matching.specs.Pairing.{Pairing, isPairing}
 use Rattle.matching.specs.Listed.{points, filed}
 use Rattle.matching.specs.Demand.{NoGainNoLoss}
 use Rattle.matching.specs.Slip.{left, lift}
-use Rattle.matching.proofs.Pairing.{pairing-is}
+use Rattle.matching.proofs.Pairing.{is-pairing, pairing-is}
 use Rattle.matching.proofs.Reduce.{replay-fits}
 use Rattle.matching.proofs.Demand.{no-gain-no-loss}
 use Rattle.cellfile.specs.Files.{cellsOf, stepsOf, pairsOf}
@@ -28,7 +29,7 @@ use Rattle.claims.specs.Demand.{storeOf, shortOf, PairingOf, HeaviestOf,
 use Rattle.claims.specs.Demand.{Allowed, Liftable, ShortKeeps, LiftKeeps, DemandThree}
 use Rattle.claims.specs.Claims.{reduceSlip, reduceShort}
 use Rattle.claims.proofs.Slips.{rs, after, taken, by-steps, carried-is, graph-after, short-graph}
-use Rattle.claims.proofs.Slips.{pairing-after, heaviest-after, after-heaviest}
+use Rattle.claims.proofs.Slips.{pairing-after, after-pairing, heaviest-after, after-heaviest}
 
 -- ---- refusal 12, and the rows of the calls after those of the list
 
@@ -76,7 +77,8 @@ module _ (list slip : List ℕ) (h : Allowed list slip) where
   pub store-heaviest : (m : List Pair) → HeaviestOf (shortOf (replayShort list slip)) m
       → HeaviestOf (storeOf list) (filed (lift (graphIn list) (h .steps) m))
   store-heaviest m q =
-      heaviest-lifted list (h .accepted) (rs list slip h) (h .steps) (taken list slip h) m (heaviest-after list slip h m q)
+      heaviest-lifted list (h .accepted) (rs list slip h) (h .steps) (taken list slip h) m
+      (heaviest-after list slip h m q)
 
   some-heaviest : HeaviestOf (shortOf (replayShort list slip)) (solution (cellsOf list) (after list slip h))
   some-heaviest =
@@ -101,6 +103,18 @@ module _ (list slip : List ℕ) (h : Allowed list slip) where
 
   -- ---- a pairing of the short list
 
+  -- refusal 10 is for the graph left, which has the pairings of the short list
+  pub ten-just : (m : List Pair) → (noPairing (bySteps list slip (graphIn list) (graphAfter list)) m ≡ false)
+      ↔ PairingOf (shortOf (replayShort list slip)) m
+  ten-just m = (
+    (λ e. after-pairing list slip h m
+        (is-pairing (after list slip h) m (not-false (isPairing (after list slip h) m) (sym same ∙ e)))),
+    (λ p. same ∙ ap not (pairing-is (after list slip h) m (pairing-after list slip h m p))),
+  )
+    where
+      same : noPairing (bySteps list slip (graphIn list) (graphAfter list)) m ≡ noPairing (after list slip h) m
+      same = ap (λ (w : Points). noPairing w m) (by-steps list slip h (graphIn list) (graphAfter list))
+
   module _ (pairing : List ℕ) (p : Liftable list slip pairing) where
     abbrev m : List Pair
     m = pairsOf pairing
@@ -108,17 +122,11 @@ module _ (list slip : List ℕ) (h : Allowed list slip) where
     fits : Pairing (left (graphIn list) (h .steps)) (pairsOf pairing)
     fits = pairing-after list slip h m (p .pairs)
 
-    -- refusal 10 is for the graph left
-    pub there : noPairing (bySteps list slip (graphIn list) (graphAfter list)) (pairsOf pairing) ≡ false
-    there =
-        ap (λ (w : Points). noPairing w m) (by-steps list slip h (graphIn list) (graphAfter list))
-        ∙ ap not (pairing-is (after list slip h) m fits)
-
     lift-writes : Writes (lifting list slip pairing) (liftFile list slip pairing)
     lift-writes lent room enough l =
         call-passes list lent (liftRows list slip pairing room) (length (liftFile list slip pairing) ∷ []) enough
         (h .accepted)
-        (h .formed, (ap not stands, (p .formed, (there, (room-enough room (liftFile list slip pairing) l, tt)))))
+        (h .formed, (ap not stands, (p .formed, (ten-just m .1 (p .pairs), (room-enough room (liftFile list slip pairing) l, tt)))))
 
     pub same-lifted : liftFile list slip pairing ≡ liftedFile list (h .steps) (pairsOf pairing)
     same-lifted = by-steps list slip h [] (λ ts. liftedFile list ts m)

@@ -172,71 +172,71 @@ module _ (g : Given) where
 
     -- ---- lift answers j
 
-    module _ {y : Answer} {j : ℕ} {lifted′ a″ b″ : List ℕ} (f : y ≡ (0, j ∷ [])) (lifted : LiftDid a′ b′ y lifted′ a″ b″)
-      where
-        abbrev l : LiftDid a′ b′ (0, j ∷ []) lifted′ a″ b″
-        l = subst (λ z. LiftDid a′ b′ z lifted′ a″ b″) f lifted
+    module _ {y : Answer} {j : ℕ} {lifted′ a″ b″ : List ℕ} (f : y ≡ (0, j ∷ []))
+        (lifted : LiftDid a′ b′ y lifted′ a″ b″) where
+      abbrev l : LiftDid a′ b′ (0, j ∷ []) lifted′ a″ b″
+      l = subst (λ z. LiftDid a′ b′ z lifted′ a″ b″) f lifted
 
-        lift-zero : Allowed (g .list) (g .slip) × Liftable (g .list) (g .slip) (g .pairing)
-            × Wrote (liftFile (g .list) (g .slip) (g .pairing)) words (length (g .lifted)) j
-        lift-zero = zero-tells .lift (g .list) (g .slip) (g .pairing) words (length (g .lifted)) j (lifts-here l)
+      lift-zero : Allowed (g .list) (g .slip) × Liftable (g .list) (g .slip) (g .pairing)
+          × Wrote (liftFile (g .list) (g .slip) (g .pairing)) words (length (g .lifted)) j
+      lift-zero = zero-tells .lift (g .list) (g .slip) (g .pairing) words (length (g .lifted)) j (lifts-here l)
 
-        pub lift-room : j ≤ length (g .lifted)
-        lift-room = let w = lift-zero .2 in omega (arith, w .fits, w .value)
+      pub lift-room : j ≤ length (g .lifted)
+      lift-room = let w = lift-zero .2 in omega (arith, w .fits, w .value)
 
-        lifted-again : take j lifted′ ≡ lift-file
-        lifted-again = ap (take j) (l .1 .0) ∙ file-again lift-file (g .lifted) j (lift-zero .2 .value)
+      lifted-again : take j lifted′ ≡ lift-file
+      lifted-again = ap (take j) (l .1 .0) ∙ file-again lift-file (g .lifted) j (lift-zero .2 .value)
 
-        abbrev clear : Clears (g .a) (g .b) a″ b″
-        clear = clear-again (g .a) (g .b) (r .1 .1) (l .1 .1)
+      abbrev clear : Clears (g .a) (g .b) a″ b″
+      clear = clear-again (g .a) (g .b) (r .1 .1) (l .1 .1)
 
-        weighs-next : {x : Answer} {a‴ b‴ : List ℕ} → WeighDid lifted′ a″ b″ j x a‴ b‴
-            → ended (i ∷ []) (j ∷ []) x
-            ≡ asking (g .list) (g .slip) (g .pairing) words (length (g .short)) (length (g .lifted))
-        weighs-next v =
-            ap (ended (i ∷ []) (j ∷ [])) (v .0)
-            ∙ ap₂ (λ (f ws : List ℕ). ended (i ∷ []) (j ∷ []) (weighing (g .list) f ws)) lifted-again
-            (lent-again (g .a) (g .b) clear)
-            ∙ sym (lift-next ∙ ap (onward (i ∷ [])) (lifts-here l))
+      weighs-next : {x : Answer} {a‴ b‴ : List ℕ} → WeighDid lifted′ a″ b″ j x a‴ b‴
+          → ended (i ∷ []) (j ∷ []) x
+          ≡ asking (g .list) (g .slip) (g .pairing) words (length (g .short)) (length (g .lifted))
+      weighs-next v =
+          ap (ended (i ∷ []) (j ∷ [])) (v .0)
+          ∙ ap₂ (λ (f ws : List ℕ). ended (i ∷ []) (j ∷ []) (weighing (g .list) f ws)) lifted-again
+          (lent-again (g .a) (g .b) clear)
+          ∙ sym (lift-next ∙ ap (onward (i ∷ [])) (lifts-here l))
 
-        pub weigh-refused : {z : Answer} {k : ℕ} {a‴ b‴ : List ℕ} → z ≡ (k, []) → WeighDid lifted′ a″ b″ j z a‴ b‴
-            → Promised (Refused k) short′ lifted′ a‴ b‴
-        weigh-refused d v = (
-          sym (ap (ended (i ∷ []) (j ∷ [])) d) ∙ weighs-next v,
-          (outs l, (tt, clear-again (g .a) (g .b) clear (v .1))),
-        )
+      pub weigh-refused : {z : Answer} {k : ℕ} {a‴ b‴ : List ℕ} → z ≡ (k, []) → WeighDid lifted′ a″ b″ j z a‴ b‴
+          → Promised (Refused k) short′ lifted′ a‴ b‴
+      weigh-refused d v = (
+        sym (ap (ended (i ∷ []) (j ∷ [])) d) ∙ weighs-next v,
+        (outs l, (tt, clear-again (g .a) (g .b) clear (v .1))),
+      )
 
-        -- ---- weigh answers p
+      -- ---- weigh answers p
 
-        keeps-all : {z : Answer} {p : ℕ} {a‴ b‴ : List ℕ} → z ≡ (0, p ∷ []) → WeighDid lifted′ a″ b″ j z a‴ b‴
-            → Told (g .list) (g .slip) (g .pairing) (take i short′) (take j lifted′) p
-        keeps-all {p = p} d v =
-            subst (λ (f : List ℕ). Told (g .list) (g .slip) (g .pairing) f (take j lifted′) p) (sym short-is)
-            (subst (λ (f : List ℕ). Told (g .list) (g .slip) (g .pairing) short-file f p) (sym lifted-again) kept)
-          where
-            short-is : take i short′ ≡ short-file
-            short-is =
-                ap (take i) (r .1 .0)
-                ∙ file-again short-file (g .short) i
-                (zero-tells .replay (g .list) (g .slip) words (length (g .short)) i (sym (r .0)) .1 .value)
+      keeps-all : {z : Answer} {p : ℕ} {a‴ b‴ : List ℕ} → z ≡ (0, p ∷ []) → WeighDid lifted′ a″ b″ j z a‴ b‴
+          → Told (g .list) (g .slip) (g .pairing) (take i short′) (take j lifted′) p
+      keeps-all {p = p} d v =
+          subst (λ (f : List ℕ). Told (g .list) (g .slip) (g .pairing) f (take j lifted′) p) (sym short-is)
+          (subst (λ (f : List ℕ). Told (g .list) (g .slip) (g .pairing) short-file f p) (sym lifted-again) kept)
+        where
+          short-is : take i short′ ≡ short-file
+          short-is =
+              ap (take i) (r .1 .0)
+              ∙ file-again short-file (g .short) i
+              (zero-tells .replay (g .list) (g .slip) words (length (g .short)) i (sym (r .0)) .1 .value)
 
-            kept : Told (g .list) (g .slip) (g .pairing) short-file lift-file p
-            kept =
-                let h = lift-zero in
-                let three = demand-three (g .list) (g .slip) (h .0) in
-                let keeps = three .2 (g .pairing) (h .1) .1 in
-                record {
-                  exactly =
-                      zero-tells .weigh (g .list) lift-file (lent a″ b″) p
-                      (ap (λ (f : List ℕ). weighing (g .list) f (lent a″ b″)) (sym lifted-again) ∙ sym (v .0) ∙ d) .3
-                      ∙ keeps .exact;
-                  short-keeps = three .1;
-                  lift-keeps = keeps;
-                }
+          kept : Told (g .list) (g .slip) (g .pairing) short-file lift-file p
+          kept =
+              let h = lift-zero in
+              let three = demand-three (g .list) (g .slip) (h .0) in
+              let keeps = three .2 (g .pairing) (h .1) .1 in
+              record {
+                exactly =
+                    zero-tells .weigh (g .list) lift-file (lent a″ b″) p
+                    (ap (λ (f : List ℕ). weighing (g .list) f (lent a″ b″)) (sym lifted-again) ∙ sym (v .0) ∙ d) .3
+                    ∙ keeps .exact;
+                short-keeps = three .1;
+                lift-keeps = keeps;
+              }
 
-        pub all-answered : {z : Answer} {p : ℕ} {a‴ b‴ : List ℕ} → z ≡ (0, p ∷ []) → WeighDid lifted′ a″ b″ j z a‴ b‴
-            → Promised (Answered i j p) short′ lifted′ a‴ b‴
-        all-answered d v = (
-          sym (ap (ended (i ∷ []) (j ∷ [])) d) ∙ weighs-next v,
-          (outs l, (keeps-all d v, clear-again (g .a) (g .b) clear (v .1))),
-        )
+      pub all-answered : {z : Answer} {p : ℕ} {a‴ b‴ : List ℕ} → z ≡ (0, p ∷ []) → WeighDid lifted′ a″ b″ j z a‴ b‴
+          → Promised (Answered i j p) short′ lifted′ a‴ b‴
+      all-answered d v = (
+        sym (ap (ended (i ∷ []) (j ∷ [])) d) ∙ weighs-next v,
+        (outs l, (keeps-all d v, clear-again (g .a) (g .b) clear (v .1))),
+      )

@@ -198,7 +198,8 @@ module _ (off : List ℕ) (e : Pair) (es m : List Pair) (p : Within off (e ∷ e
   within-in h = record {
     among = within-out .among;
     once = within-out .once;
-    unpaired = both-all (λ c. sum (hit c) rest ≡ 0) e off (at (e .0) (inl refl)) (at (e .1) (inr refl)) (within-out .unpaired);
+    unpaired = both-all (λ c. sum (hit c) rest ≡ 0) e off (at (e .0) (inl refl)) (at (e .1) (inr refl))
+        (within-out .unpaired);
   }
     where
       at : (c : ℕ) → (e .0 ≡ c) ⊎ (e .1 ≡ c) → sum (hit c) rest ≡ 0

@@ -5,8 +5,9 @@ use mathlib.Core.Path.{_≡_, refl, ap, _∙_}
 use mathlib.Core.Logic.{_⊎_, inl, inr, _≢_}
 use mathlib.Core.Bool.{Bool, true, cond, _||_}
 use mathlib.Core.List.{List, [], _∷_}
-use Prim.Native.Nat.{ℕ, _+_, max}
+use Prim.Native.Nat.{ℕ, suc, _+_, max}
 use lib.Dec.{eqb}
+use lib.ListN.{length}
 use Rattle.matching.specs.Lists.{mem}
 use Rattle.matching.specs.Pairs.{Pair, Points, Each}
 use Rattle.matching.specs.Best.{barred, H, pays, best, walk}
@@ -42,6 +43,10 @@ best-ext t w (e ∷ es) off on p =
     cc (best-ext t w es off on (p .1), best-ext t w es (both e off) (both e on) q, out, with, p .0 .0, p .0 .1)
 
 -- What holds of the cells of a walk holds of both cells of each of its pairs.
+pub length-walk : (u : ℕ) (cs : List ℕ) (v : ℕ) → length (walk u cs v) ≡ suc (length cs)
+length-walk u [] v = refl
+length-walk u (c ∷ cs) v = ap suc (length-walk c cs v)
+
 pub walk-each : (P : ℕ → Type 0) (cs : List ℕ) (u v : ℕ) → P u → P v → ((c : ℕ) → mem c cs ≡ true → P c)
     → Each (λ a b. P a × P b) (walk u cs v)
 walk-each P [] u v hu hv h = ((hu, hv), tt)

@@ -5,7 +5,7 @@ use mathlib.Core.Path.{_≡_, refl, sym, ap, _∙_}
 use mathlib.Core.Logic.{_⊎_, inl, inr, _≢_}
 use mathlib.Core.Bool.{Bool, true, false, cond}
 use mathlib.Core.List.{List, [], _∷_}
-use Prim.Native.Nat.{ℕ, _-_, _≤_, _<_, max, suc}
+use Prim.Native.Nat.{ℕ, _-_, _≤_, _<_, max}
 use native.Mathlib.Omega.{arith}
 use lib.ListN.{length}
 use Rattle.matching.specs.Lists.{mem}
@@ -28,6 +28,7 @@ use Rattle.matching.proofs.Pairs.{Same, sameT}
 use Rattle.matching.proofs.Members.{mem-apart, mem-head, mem-one, or-left}
 use Rattle.matching.proofs.Sums.{touchesT}
 use Rattle.matching.proofs.Put.{put-else, pair-apart}
+use Rattle.matching.proofs.Path.{length-walk}
 use Rattle.matching.proofs.Best.{H-mono, H-less}
 use Rattle.matching.proofs.Fits.{Fits}
 use Rattle.matching.proofs.Exact.{step-graph}
@@ -60,23 +61,19 @@ dropped-at : (cs : List ℕ) (w : Points) (c a : ℕ) → mem c cs ≡ true → 
 unfolding dropped
 dropped-at cs w c a h = ap (λ (t : Bool). cond t 0 (w c a)) (or-left (mem c cs) (mem a cs) h)
 
-walk-length : (u : ℕ) (cs : List ℕ) (v : ℕ) → length (walk u cs v) ≡ suc (length cs)
-walk-length u [] v = refl
-walk-length u (c ∷ cs) v = ap suc (walk-length c cs v)
-
 -- The first and the last pair of a walk.
-walk-first : (w : Points) (u : ℕ) (cs : List ℕ) (v : ℕ) → 1 < length cs
+from-first : (w : Points) (u : ℕ) (cs : List ℕ) (v : ℕ) → 1 < length cs
     → Each (λ a b. 0 < w a b) (walk u cs v) → 0 < w u (first u cs)
-walk-first w u [] v l p = (let z : ⊥ = omega arith in absurd z)
-walk-first w u (c ∷ cs) v l p = p .0
+from-first w u [] v l p = (let z : ⊥ = omega arith in absurd z)
+from-first w u (c ∷ cs) v l p = p .0
 
-walk-last : (w : Points) (u : ℕ) (cs : List ℕ) (v : ℕ) → Each (λ a b. 0 < w a b) (walk u cs v) → 0 < w (last u cs) v
-walk-last w u [] v p = p .0
-walk-last w u (c ∷ cs) v p = walk-last w c cs v (p .1)
+from-last : (w : Points) (u : ℕ) (cs : List ℕ) (v : ℕ) → Each (λ a b. 0 < w a b) (walk u cs v) → 0 < w (last u cs) v
+from-last w u [] v p = p .0
+from-last w u (c ∷ cs) v p = from-last w c cs v (p .1)
 
 row-part : {n : ℕ} {w : Points} {u : ℕ} {inner : List ℕ} {v : ℕ} → IsRow n w u inner v → Part n w u v inner
 row-part {u = u} {inner} {v} r = record {
-  long = omega (arith, r .more, walk-length u inner v);
+  long = omega (arith, r .more, length-walk u inner v);
   edges = r .live;
   apart = (r .apart, r .first-off, r .last-off);
   two = r .two;
@@ -151,8 +148,8 @@ module _ {n : ℕ} {w : Points} (g : Graph n w) where
         two : 1 < degree n w u
         two =
             partners-more-than-one g u (first u inner) (last u inner) (λ e. omega (arith, p .towards))
-            (walk-first w u inner u (p .row .more) (p .row .live))
-            (omega (arith, walk-last w u inner u (p .row .live), g .turned u (last u inner)))
+            (from-first w u inner u (p .row .more) (p .row .live))
+            (omega (arith, from-last w u inner u (p .row .live), g .turned u (last u inner)))
 
         go : {t : Bool} → Test (degree n w u ≡ 2) (degree n w u ≢ 2) t → (3 ≤ degree n w u) ⊎ (degree n w u ≡ 2)
         go (pass e) = inr e

@@ -83,7 +83,8 @@ pub replay-is : {n : ℕ} {w : Points} → Graph n w → (slip : List (Rule × �
 replay-is g slip ss = (λ h. replay-fits g slip ss h .3, λ p. are-replay g slip ss p)
 
 -- It is not just where some step is not allowed where it stands.
-replay-stops : {n : ℕ} {w : Points} → Graph n w → (slip : List (Rule × ℕ)) → replay n w slip ≡ none → SomeStepNot n w slip
+replay-stops : {n : ℕ} {w : Points} → Graph n w → (slip : List (Rule × ℕ)) → replay n w slip ≡ none
+    → SomeStepNot n w slip
 replay-stops g [] h = (let z : _≡_ {A = ℕ} 0 1 = cc in absurd (omega arith))
 replay-stops {n} {w} g (r ∷ rs) h =
     go (stepAt n w (r .0) (r .1)) refl h (λ s f. replay-stops (step-graph g s f) rs)
@@ -104,7 +105,8 @@ replay-stops {n} {w} g (r ∷ rs) h =
         on none q = refl
         on (some ss) q = (let z : _≡_ {A = ℕ} 0 1 = cc in absurd (omega arith))
 
-stops-replay : {n : ℕ} {w : Points} → Graph n w → (slip : List (Rule × ℕ)) → SomeStepNot n w slip → replay n w slip ≡ none
+stops-replay : {n : ℕ} {w : Points} → Graph n w → (slip : List (Rule × ℕ)) → SomeStepNot n w slip
+    → replay n w slip ≡ none
 stops-replay g [] p = absurd p
 stops-replay g (r ∷ rs) (inl nil) = rw (step-none g (r .0) (r .1) .1 nil, replay) refl
 stops-replay g (r ∷ rs) (inr p) =

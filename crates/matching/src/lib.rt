@@ -13,9 +13,9 @@
 //   slips     demand 3, one theorem on the whole slip: no-gain-no-loss, Demand. The bounds of points and carried points:
 //             left-bound, total-fits; no more entries than the store: short-fewer. Demand.
 //             Replaying finds just the steps that are allowed, each where it stands: replay-is, replay-not. Reduce.
-//   reduce    its steps are allowed: reduce-replay; they come in parts: reduce-append; each is the first that is allowed,
-//             and none is after them: reduce-in-turn. Reduce. A leaf where no lower cell is one comes first: first-leaf,
-//             Find.
+//   reduce    its steps are allowed: reduce-replay; they come in parts: reduce-append; each is the first that is
+//             allowed, and none is after them: reduce-in-turn. Reduce. A leaf where no lower cell is one comes first:
+//             first-leaf, Find.
 //   the paper the graph of a list is the list after Rule 2.3, a step the rule that it is named after: weightless,
 //             published. Published. The way back in the description's words: row-best, step-undone, slip-lifts. Ways.
 //   solve     the recursion over sets is the choice in reading order: solve-best, Solve; it is heaviest, and the one

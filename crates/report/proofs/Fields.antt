@@ -28,7 +28,7 @@ use Rattle.cellfile.proofs.Bytes.{number-bytes}
 use Rattle.cellfile.proofs.Fields.{length-write-record, length-read-records}
 use Rattle.cellfile.proofs.Merge.{OrderedPairs}
 use Rattle.cellfile.proofs.RoundTrip.{length-file, accepted-entries}
-use Rattle.cellfile.proofs.Rows.{list-none, too-large-none, wrong-length-none}
+use Rattle.cellfile.proofs.Rows.{list-none, too-large-none, wrong-length-none, bad-pairing-none}
 use Rattle.reduction.specs.Calls.{graphIn, slipFile, shortFile, nameFields, reduceSteps}
 use Rattle.cellfile.specs.Files.{asFields}
 use Rattle.reduction.proofs.Reducing.{reduce-allowed}
@@ -37,7 +37,8 @@ use Rattle.reduction.proofs.Courses.{list-few, left-small, steps-few}
 use Rattle.matching.proofs.Demand.{short-fewer}
 use Rattle.cellfile.specs.Files.{pairFields}
 use Rattle.lifting.specs.Calls.{graphAfter, solution, pairingFile}
-use Rattle.lifting.proofs.Filing.{file-pairing, file-in-order, file-half, all-entries, pairing-pairing, pairing-read}
+use Rattle.lifting.proofs.Filing.{file-in-order, file-half, file-pairing, file-formed, file-longest}
+use Rattle.lifting.proofs.Filing.{all-entries, pairing-pairing, pairing-read}
 use Rattle.report.specs.Printed.{withPoints}
 use Rattle.report.specs.Writing.{found}
 use Rattle.report.proofs.Found.{found-is}
@@ -47,16 +48,6 @@ use Rattle.report.proofs.Found.{found-is}
 ordered-of : (m : List Pair) → InOrder m → Each (λ a b. b < 1024) m → OrderedPairs m
 ordered-of [] o q = tt
 ordered-of (e ∷ m) o q = ((o .0, q .0), ordered-of m (o .1 .1) (q .1))
-
-ascending-of : (low : ℕ) (m : List Pair) → InOrder m → Each (λ a b. low ≤ a) m
-    → ascendingFrom low (map (λ (p : Pair). p .0) m) ≡ true
-ascending-of low [] o l = refl
-ascending-of low (e ∷ m) o l =
-    rw (le-leb low (e .0) (l .0)) (ascending-of (suc (e .0)) m (o .1 .1) (each-map (λ a b k. omega arith) m (o .1 .0)))
-
-each-any : (m : List Pair) → Each (λ a b. 0 ≤ a) m
-each-any [] = tt
-each-any (e ∷ m) = (omega arith, each-any m)
 
 module _ (list : List ℕ) (h : first (listRows storeList list) ≡ 0) where
   abbrev n : ℕ
@@ -159,7 +150,8 @@ module _ (list : List ℕ) (h : first (listRows storeList list) ≡ 0) where
 
   in-order : InOrder ps
   in-order =
-      subst InOrder (sym (pairing-read list h)) (file-in-order few (all-entries list h) brought (pairing-pairing list h))
+      subst InOrder (sym (pairing-read list h))
+      (file-in-order few (all-entries list h) brought (pairing-pairing list h))
 
   ordered : OrderedPairs ps
   ordered =
@@ -167,7 +159,8 @@ module _ (list : List ℕ) (h : first (listRows storeList list) ≡ 0) where
       (each-map (λ a b k. omega (arith, pair-below (all-entries list h) a b k .1, few)) ps (pairing-held .held))
 
   ascending : ascendingFrom 0 (map (λ (p : Pair). p .0) ps) ≡ true
-  ascending = ascending-of 0 ps in-order (each-any ps)
+  ascending =
+      bad-pairing-none n (pairingFile list) (file-formed few (all-entries list h) brought (pairing-pairing list h)) .2
 
   pub pairs-few : length ps ≤ 512
   pairs-few =
@@ -187,7 +180,7 @@ module _ (list : List ℕ) (h : first (listRows storeList list) ≡ 0) where
       )
 
   pub pairing-most : length (pairingFile list) ≤ 1540
-  pairing-most = omega (arith, pairs-length, pairs-few)
+  pairing-most = file-longest few (all-entries list h) brought (pairing-pairing list h)
 
   count-is : countOf (pairingFile list) ≡ length ps
   count-is =

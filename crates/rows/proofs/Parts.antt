@@ -19,7 +19,7 @@ use Rattle.matching.specs.Shapes.{last}
 use Rattle.matching.proofs.Tests.{eqT, isT, orT, fails}
 use Rattle.matching.proofs.Members.{no-mem, mem-on, mem-head, mem-not, mem-cases, mem-apart, mem-past, distinct-cons}
 use Rattle.matching.proofs.Best.{H-nil, H-cons, best-nil, best-cons}
-use Rattle.matching.proofs.Path.{Alike, Recurs, H-ext, best-ext, walk-each, ring-step}
+use Rattle.matching.proofs.Path.{Alike, Recurs, H-ext, best-ext, length-walk, walk-each, ring-step}
 use Rattle.rows.specs.Row.{rowPoints, rowWords, RowOf, two, heavy, paying, standing}
 use Rattle.rows.specs.Row.{pathMarks, partMarks, unmarked, marked, less, RowBest}
 use Rattle.rows.proofs.Points.{Apart, words-along, two-none, two-path}
@@ -181,10 +181,6 @@ marked-front : (ms : List ℕ) (es fs : List Pair) → length ms ≤ length es �
 marked-front [] es fs h = refl
 marked-front (m ∷ ms) [] fs h = absurd (omega (arith, h))
 marked-front (m ∷ ms) (e ∷ es) fs h = rw (marked-front ms es fs (omega (arith, h)))
-
-length-walk : (u : ℕ) (cs : List ℕ) (v : ℕ) → length (walk u cs v) ≡ suc (length cs)
-length-walk u [] v = refl
-length-walk u (c ∷ cs) v = ap suc (length-walk c cs v)
 
 -- Words that are a part of a row, behind a of its pairs and before k: the points of the part and its marks are those of
 -- the best of `all` with the cells off kept free.
