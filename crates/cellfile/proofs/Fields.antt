@@ -4,8 +4,8 @@ use Prim.Native.Nat.{ℕ, zero, suc, _+_, _*_, _/_, _%_, _^_, _≤_, _<_}
 use mathlib.Core.Path.{_≡_, refl, sym, ap, _∙_}
 use mathlib.Core.List.{List, [], _∷_, _++_, append-assoc}
 use native.Mathlib.Omega.{arith}
-use native.Mathlib.Nat.{pow-suc, mul-assoc, mul-zero, mul-suc, mod-one, mod-eq-of-lt}
-use native.Mathlib.Nat.{mul-add-div-right, mul-add-mod-self-right}
+use native.Mathlib.Nat.{pow-suc, mul-assoc, mul-zero, mul-suc, mod-one, mod-eq-of-lt, mul-add-div-right}
+use native.Mathlib.Nat.{mul-add-mod-self-right}
 use lib.Arith.{digits-lt}
 use lib.Pow.{pow-pos, pow-add, high, mod-pow-add}
 use lib.ListN.{length, take, drop, length-append, length-drop}

@@ -7,14 +7,14 @@ use native.Mathlib.Omega.{arith}
 use native.Mathlib.Nat.{mul-suc, mul-le-mul-left}
 use native.Mathlib.Numerals.{add-one}
 use lib.ListN.{length, take, drop, getD, set, length-append, length-drop, length-set, length-map}
-use lib.Seq.{drop-cons, drop-set-lt, getD-set-same, drop-length, drop-at, drop-drop}
-use lib.Seq.{take-suc, take-at, take-all, length-take-le}
+use lib.Seq.{drop-cons, drop-set-lt, getD-set-same, drop-length, drop-at, drop-drop, take-suc, take-at, take-all}
+use lib.Seq.{length-take-le}
 use borrow.Rule.Slice.PartMut.{putMid, postOf, post-is}
 use Rattle.cellfile.specs.Bytes.{bytes}
 use Rattle.cellfile.specs.Fields.{size, packed, fields, writeRecord, writeRecords}
 use Rattle.cellfile.specs.Files.{Layout, header, shortList, writeFile, onto}
 use Rattle.cellfile.specs.Fits.{WholeBytes}
-use Rattle.cellfile.specs.Loops.{wordBytes, fileOf}
+use Rattle.cellfile.specs.Words.{wordBytes, fileOf}
 use Rattle.cellfile.proofs.Bytes.{length-bytes}
 use Rattle.cellfile.proofs.Fields.{write-fields}
 

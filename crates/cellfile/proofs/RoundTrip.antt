@@ -5,24 +5,18 @@
 -- Then: the bytes of every list, slip and pairing that is not refused are such, and what holds of an accepted list.
 use Prim.Native.Nat.{ℕ, _*_, _<_}
 use mathlib.Core.Path.{_≡_, refl, sym, _∙_}
-use mathlib.Core.Bool.{true, false}
-use mathlib.Core.List.{List, [], _∷_, _++_, map, append-nil}
+use mathlib.Core.List.{List, [], _∷_, _++_, append-nil}
 use native.Mathlib.Omega.{arith}
 use lib.ListN.{length, take, drop, length-append, length-drop, take-append-drop}
 use lib.Seq.{drop-at, drop-drop, take-all}
-use Rattle.matching.specs.Lists.{All}
-use Rattle.matching.specs.Listed.{Entry}
 use Rattle.cellfile.specs.Fields.{size, fields, readRecord, writeRecord, readRecords, writeRecords}
-use Rattle.cellfile.specs.Files.{Layout, storeList, shortList, slip, pairing, start, fileLength}
-use Rattle.cellfile.specs.Files.{header, kindOf, cellsOf, countOf, zerosOf, entriesOf}
-use Rattle.cellfile.specs.Files.{File, readFile, writeFile, readEntries}
+use Rattle.cellfile.specs.Files.{Layout, start, fileLength, header, kindOf, cellsOf, countOf, zerosOf, File}
+use Rattle.cellfile.specs.Files.{readFile, writeFile, readEntries}
 use Rattle.cellfile.specs.Fits.{AreBytes, WholeBytes, FitsFile}
-use Rattle.cellfile.specs.Refusals.{first, listRows, key, ascendingFrom, misheaded, badSlip, badPairing}
 use Rattle.cellfile.proofs.All.{all-drop}
 use Rattle.cellfile.proofs.Fields.{length-write-record, read-write-record, write-read-record}
-use Rattle.cellfile.proofs.Fields.{length-read-records, length-write-records, read-write-records, write-read-records}
-use Rattle.cellfile.proofs.Rows.{or-none, list-none, not-a-list-none, wrong-length-none}
-use Rattle.cellfile.proofs.Rows.{stray-entry-none, unordered-none, misheaded-none}
+use Rattle.cellfile.proofs.Fields.{length-read-records, length-write-records, read-write-records}
+use Rattle.cellfile.proofs.Fields.{write-read-records}
 
 -- ---- a file, written and read again
 
@@ -118,40 +112,3 @@ write-read l s whole-extra whole-entry a k z h =
         ∙ sym (drop-drop (size widths) 4 s)
 
 -- ---- the layouts, and what is not refused
-
--- both laws are for layouts of whole bytes, which all four are
-pub whole-layouts : All (λ (l : Layout). (n : ℕ) → WholeBytes (l .extra n) × WholeBytes (l .entry))
-    (storeList ∷ shortList ∷ slip ∷ pairing ∷ [])
-whole-layouts = ((λ n. (refl, refl)), ((λ n. (refl, refl)), ((λ n. (refl, refl)), ((λ n. (refl, refl)), tt))))
-
-pub write-read-list : (s : List ℕ) → AreBytes s → first (listRows storeList s) ≡ 0
-    → writeFile storeList (readFile storeList s) ≡ s
-write-read-list s a e =
-    let rows = list-none storeList s e in
-    let h = not-a-list-none storeList s (rows .0) in
-    write-read storeList s refl refl a (h .0) (h .1) (wrong-length-none storeList s (rows .1 .1 .0))
-
--- a layout with nothing between the header and the entries
-write-read-headed : (l : Layout) (n : ℕ) (s : List ℕ) → start l (cellsOf s) ≡ 4 → WholeBytes (l .extra (cellsOf s))
-    → WholeBytes (l .entry) → AreBytes s → misheaded (l .kind) (size (l .entry)) n s ≡ false
-    → writeFile l (readFile l s) ≡ s
-write-read-headed l n s four whole-extra whole-entry a e =
-    let h = misheaded-none (l .kind) (size (l .entry)) n s e in
-    write-read l s whole-extra whole-entry a (h .0) (h .2) (omega arith)
-
-pub write-read-slip : (n : ℕ) (s : List ℕ) → AreBytes s → badSlip n s ≡ false → writeFile slip (readFile slip s) ≡ s
-unfolding badSlip
-write-read-slip n s a e = write-read-headed slip n s refl refl refl a (or-none _ _ e .0)
-
-pub write-read-pairing : (n : ℕ) (s : List ℕ) → AreBytes s → badPairing n s ≡ false
-    → writeFile pairing (readFile pairing s) ≡ s
-unfolding badPairing
-write-read-pairing n s a e = write-read-headed pairing n s refl refl refl a (or-none _ _ e .0)
-
--- the entries of a list that is not refused: each a below b below n, and ascending
-pub accepted-entries : (s : List ℕ) → first (listRows storeList s) ≡ 0
-    → All (λ (e : Entry). (e .0 < e .1) × (e .1 < cellsOf s)) (entriesOf storeList s)
-    × (ascendingFrom 0 (map (λ (e : Entry). key (e .0) (e .1)) (entriesOf storeList s)) ≡ true)
-accepted-entries s e =
-    let rows = list-none storeList s e in
-    (stray-entry-none storeList s (rows .1 .1 .1 .0), unordered-none storeList s (rows .1 .1 .1 .1 .0))

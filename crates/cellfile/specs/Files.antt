@@ -1,11 +1,13 @@
 -- The files: 'every file starts with 32 bits: kind (4), cells n (11), count m (13), four zero bits'.
 use Prim.Native.Nat.{ℕ, _+_, _*_, _-_, _^_}
-use mathlib.Core.Path.{_≡_}
 use mathlib.Core.List.{List, [], _∷_, _++_, map}
-use lib.ListN.{length, getD, drop, replicate}
+use lib.ListN.{length, getD, drop}
 use Rattle.matching.specs.Pairs.{Pair}
 use Rattle.matching.specs.Listed.{Entry}
 use Rattle.cellfile.specs.Fields.{size, readRecord, writeRecord, readRecords, writeRecords}
+use mathlib.Core.Bool.{cond}
+use lib.Dec.{eqb}
+use Rattle.matching.specs.Steps.{Rule, by-leaf, by-ring, by-chain, Step, name}
 
 -- The fields of the header, and what each of them is.
 abbrev pub header : List ℕ
@@ -106,16 +108,32 @@ asFields e = e .0 ∷ e .1 ∷ e .2 ∷ []
 abbrev pub pairFields : Pair → List ℕ
 pairFields e = e .0 ∷ e .1 ∷ 0 ∷ []
 
+-- (a, b) as one number: both cells have 10 bits.
+abbrev pub key : ℕ → ℕ → ℕ
+key a b = a * 1024 + b
+
+abbrev pub entryKey : Entry → ℕ
+entryKey e = key (e .0) (e .1)
+
+abbrev pub pairKey : Pair → ℕ
+pairKey p = key (p .0) (p .1)
+
+-- A step of a slip, 'rule (6; 1 leaf, 2 ring, 3 chain), cell (10)': the rule with a number, a rule's number; a step's
+-- name, and the fields by which a step is written.
+abbrev pub ruleOf : ℕ → Rule
+ruleOf k = cond (eqb k 1) by-leaf (cond (eqb k 2) by-ring by-chain)
+
+abbrev pub numberOf : Rule → ℕ
+numberOf by-leaf = 1
+numberOf by-ring = 2
+numberOf by-chain = 3
+
+abbrev pub asName : ℕ × ℕ → Rule × ℕ
+asName t = (ruleOf (t .0), t .1)
+
+abbrev pub nameFields : Step → List ℕ
+nameFields s = numberOf (name s .0) ∷ name s .1 ∷ []
+
 -- An output after a file was written to it: its first bytes are the file, the others are unchanged.
 unfoldable pub onto : List ℕ → List ℕ → List ℕ
 onto file out = file ++ drop (length file) out
-
--- The lengths of the work buffers lent to a call, and such a buffer as every call leaves it.
-abbrev pub lent : List ℕ → List ℕ → List ℕ
-lent a b = length a ∷ length b ∷ []
-
-abbrev pub zeros : ℕ → List ℕ
-zeros n = replicate n 0
-
-abbrev pub Cleared : List ℕ → List ℕ → Type 0
-Cleared before after = after ≡ zeros (length before)

@@ -1,31 +1,3 @@
-// The files of the load-cell store, and weighing a pairing of a store list.
+// The files: reading the fields of a record (`decode`), writing a file (`write`). These are inner functions of the calls.
 pub mod decode;
-pub mod form;
-mod weighing;
-pub mod work;
 pub mod write;
-
-ghost use mathlib.Core.Path.{_≡_};
-ghost use Rattle.cellfile.specs.Files.{lent, Cleared};
-ghost use Rattle.cellfile.specs.Answers.{weighed};
-ghost use Rattle.cellfile.specs.Weigh as specs;
-
-// The answer of weighing: a refusal's number, or the pairing's points.
-pub enum Weighed {
-    Refused(u32),
-    Points(u64),
-}
-
-// Weighs a pairing of the list. Every word of the work buffers is zero afterwards, whatever their lengths.
-pub fn weigh(list: &[u8], pairing: &[u8], work_a: &mut [u64], work_b: &mut [u64]) -> Weighed
-    ensures answer { λ r. ⌜ weighed r ≡ specs.weighing (now (list .entry)) (now (pairing .entry))
-        (lent (now («work_a» .entry)) (now («work_b» .entry))) ⌝ }
-    ensures cleared { λ _. ⌜ Cleared (now («work_a» .entry)) (now («work_a» .exit))
-        × Cleared (now («work_b» .entry)) (now («work_b» .exit)) ⌝ }
-{
-    let lent_b = work_b.len();
-    let r = weighing::weigh_in(list, pairing, work_a, lent_b);
-    work::clear(work_a);
-    work::clear(work_b);
-    r
-}

@@ -7,7 +7,7 @@ ghost use lib.ListN.{length, take};
 ghost use Rattle.cellfile.specs.Bytes.{bytes};
 ghost use Rattle.cellfile.specs.Fields.{packed};
 ghost use Rattle.cellfile.specs.Files.{header, slip, pairing, shortList, writeFile, onto};
-ghost use Rattle.cellfile.specs.Loops.{wordBytes, fileOf, Writable};
+ghost use Rattle.cellfile.specs.Words.{wordBytes, fileOf, Writable};
 
 const KIND_UNIT: u64 = 268435456;
 

@@ -1,18 +1,19 @@
 // The calls for C: include/cells.h declares them. Every slice is a pointer and a length; each call answers 0 or the
 // refusal's number, and on refusal leaves the numbers that it would answer unchanged. cells_entry answers 1 with them,
 // or 0 and leaves them unchanged.
-use cellfile::Weighed;
 use lifting::Paired;
 use reduction::Reduced;
 use reduction::Replayed;
 use view::Served;
+use weighing::Weighed;
 ghost use mathlib.Core.Path.{_≡_};
 ghost use lib.ListN.{length};
-ghost use Rattle.cellfile.specs.Files.{lent, Cleared};
-ghost use Rattle.cellfile.specs.Weigh.{weighing};
-ghost use Rattle.reduction.specs.Calls.{written, replaying, reducing, replayShort, slipFile, shortFile, reduceSteps};
-ghost use Rattle.lifting.specs.Calls.{solving, solveFile, lifting, liftFile};
-ghost use Rattle.lifting.specs.Calls.{pairing as pairingAnswer, pairingFile};
+ghost use Rattle.buffers.specs.Buffers.{lent, Cleared};
+ghost use Rattle.weighing.specs.Weigh.{weighing};
+ghost use Rattle.cellfile.specs.Answers.{written};
+ghost use Rattle.reduction.specs.Calls.{replaying, reducing, replayShort, slipFile, shortFile};
+ghost use Rattle.starting.specs.Steps.{reduceSteps};
+ghost use Rattle.lifting.specs.Calls.{solving, solveFile, lifting, liftFile, pairing as pairingAnswer, pairingFile};
 ghost use Rattle.view.specs.Serving.{serving};
 ghost use Rattle.cells_c.specs.Numbers.{valueOr};
 
@@ -31,7 +32,7 @@ pub extern "C" fn cells_weigh(
     ensures cleared { λ _. ⌜ Cleared (now («work_a» .entry)) (now («work_a» .exit))
         × Cleared (now («work_b» .entry)) (now («work_b» .exit)) ⌝ }
 {
-    match cellfile::weigh(list, pairing, work_a, work_b) {
+    match weighing::weigh(list, pairing, work_a, work_b) {
         Weighed::Refused(k) => k,
         Weighed::Points(p) => {
             *points = p;

@@ -5,7 +5,7 @@ use mathlib.Core.Logic.{_↔_, _≢_}
 use mathlib.Core.Bool.{Bool, true, false, not, false≢true, true≢false}
 use mathlib.Core.List.{List, [], _∷_, _++_, map}
 use mathlib.Core.Option.{Option, some, none}
-use Prim.Native.Nat.{ℕ, _≤_, _<_}
+use Prim.Native.Nat.{ℕ, _≤_}
 use native.Mathlib.Omega.{arith}
 use lib.ListN.{length, getD}
 use borrow.Author.Tests.{lt-ltb, ltb-true, ltb-false}
@@ -14,15 +14,16 @@ use Rattle.matching.specs.Graph.{cellsLeft}
 use Rattle.matching.specs.Steps.{Step}
 use Rattle.matching.specs.Slip.{SomeStepNot}
 use Rattle.matching.proofs.Reduce.{replay-not}
-use Rattle.cellfile.specs.Files.{cellsOf, stepsOf, pairsOf}
-use Rattle.cellfile.specs.Refusals.{Row, first, fewWords, badSlip, disallowed, badPairing, noPairing}
-use Rattle.cellfile.specs.Refusals.{crowded, shortOutput}
+use Rattle.cellfile.specs.Files.{cellsOf, stepsOf, pairsOf, asName}
+use Rattle.checks.specs.Refusals.{Row, first, fewWords, badSlip, disallowed, badPairing, noPairing, crowded}
+use Rattle.checks.specs.Refusals.{shortOutput}
 use Rattle.cellfile.specs.Answers.{answer}
-use Rattle.cellfile.proofs.Rows.{or-none}
-use Rattle.cellfile.proofs.Layers.{callRows, call-sound, call-refused}
-use Rattle.cellfile.proofs.Weights.{weigh-sound}
-use Rattle.reduction.specs.Calls.{graphIn, asName, stepsOn, stand, replayShort, reduceSteps}
-use Rattle.reduction.proofs.Courses.{list-graph}
+use Rattle.checks.proofs.Rows.{or-none}
+use Rattle.checks.proofs.Layers.{callRows, call-sound, call-refused}
+use Rattle.weighing.proofs.Weights.{weigh-sound}
+use Rattle.starting.specs.Steps.{graphIn, stepsOn, stand, reduceSteps}
+use Rattle.reduction.specs.Calls.{replayShort}
+use Rattle.starting.proofs.Courses.{list-graph}
 use Rattle.lifting.specs.Calls.{graphAfter, bySteps, slipRows, liftFile, solveFile, pairingFile, pairing}
 use Rattle.claims.specs.Demand.{AcceptedList, Allowed}
 use Rattle.claims.specs.Claims.{leftCells, reduceSlip, reduceShort, Wrote, ZeroTells, Eight, RefusalsTell}

@@ -4,7 +4,7 @@
 use mathlib.Core.Path.{_≡_, ap, _∙_}
 use mathlib.Core.Bool.{false, not}
 use mathlib.Core.List.{List, [], _∷_, map}
-use Prim.Native.Nat.{ℕ, _+_, _≤_, _<_}
+use Prim.Native.Nat.{ℕ, _≤_, _<_}
 use native.Mathlib.Omega.{arith}
 use lib.ListN.{length}
 use borrow.Author.Tests.{le-ltb}
@@ -19,13 +19,14 @@ use Rattle.matching.proofs.Published.{weightless, slip-published}
 use Rattle.matching.proofs.Reduce.{replay-is, carried-sum, reduce-in-turn}
 use Rattle.matching.proofs.Ways.{slip-lifts}
 use Rattle.cellfile.specs.Files.{cellsOf, pairsOf}
-use Rattle.cellfile.specs.Refusals.{fewWords, shortOutput}
-use Rattle.cellfile.proofs.Layers.{call-passes}
-use Rattle.cellfile.proofs.Weights.{weigh-passes}
-use Rattle.cellfile.proofs.Written.{list-passes, list-cells, list-written}
-use Rattle.reduction.specs.Calls.{graphIn, replayShort, reduceSteps, reducing}
-use Rattle.reduction.proofs.Loading.{list-accepted}
-use Rattle.reduction.proofs.Courses.{list-graph}
+use Rattle.checks.specs.Refusals.{fewWords, shortOutput}
+use Rattle.checks.proofs.Layers.{call-passes}
+use Rattle.weighing.proofs.Weights.{weigh-passes}
+use Rattle.checks.proofs.Written.{list-passes, list-cells, list-written}
+use Rattle.starting.specs.Steps.{graphIn, reduceSteps}
+use Rattle.reduction.specs.Calls.{replayShort, reducing}
+use Rattle.checks.proofs.Accepted.{accepted-list}
+use Rattle.starting.proofs.Courses.{list-graph}
 use Rattle.reduction.proofs.Reducing.{reduce-allowed}
 use Rattle.lifting.specs.Calls.{pairFile, liftFile}
 use Rattle.lifting.proofs.Filing.{file-read, file-pairing, file-formed, file-longest, all-entries}
@@ -62,7 +63,7 @@ every-slip list h rs ss p =
 every-pairing : (list slip : List ℕ) → Allowed list slip → (m : List Pair)
     → PairingOf (shortOf (replayShort list slip)) m → PairingClaim list slip m
 every-pairing list slip h m p =
-    let le = list-accepted list (h .accepted) .0 in
+    let le = accepted-list list (h .accepted) .0 in
     let g = short-entries-graph list slip h in
     let l : Liftable list slip (pairFile (cellsOf list) m) =
     record { formed = file-formed le g m p; pairs = file-pairing le g m p } in
@@ -89,7 +90,7 @@ replay-claim list slip h = record {
   cells = cells-are list slip h;
   entries = short-is list slip h;
   carried = carried-is list slip h ∙ carried-sum (graphIn list) (h .steps);
-  zero-pairs = weightless (cellsOf list) (storeOf list) (list-accepted list (h .accepted) .1);
+  zero-pairs = weightless (cellsOf list) (storeOf list) (accepted-list list (h .accepted) .1);
   rules = slip-published (list-graph list (h .accepted)) (rs list slip h) (h .steps) (h .stand);
   longest = replay-longest list slip h;
 }
@@ -97,7 +98,7 @@ replay-claim list slip h = record {
 pub lift-claim : (list slip pairing : List ℕ) (h : Allowed list slip) → Liftable list slip pairing
     → LiftClaim list slip pairing (h .steps)
 lift-claim list slip pairing h p =
-    let le = list-accepted list (h .accepted) .0 in
+    let le = accepted-list list (h .accepted) .0 in
     let g = all-entries list (h .accepted) in
     let up = lift (graphIn list) (h .steps) (pairsOf pairing) in
     let held = store-pairing list slip h pairing p in

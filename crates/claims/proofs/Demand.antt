@@ -16,20 +16,22 @@ use Rattle.matching.specs.Slip.{left, lift}
 use Rattle.matching.proofs.Pairing.{is-pairing, pairing-is}
 use Rattle.matching.proofs.Reduce.{replay-fits}
 use Rattle.matching.proofs.Demand.{no-gain-no-loss}
-use Rattle.cellfile.specs.Files.{cellsOf, stepsOf, pairsOf}
-use Rattle.cellfile.specs.Refusals.{Row, badPairing, noPairing, shortOutput}
-use Rattle.cellfile.proofs.Layers.{call-passes}
-use Rattle.reduction.specs.Calls.{graphIn, asName, stand, replayShort, replaying}
-use Rattle.reduction.proofs.Loading.{list-accepted}
-use Rattle.reduction.proofs.Courses.{list-graph}
-use Rattle.lifting.specs.Calls.{graphAfter, liftedFile, bySteps, slipRows, liftFile, lifting, solution}
-use Rattle.lifting.proofs.Solution.{solution-heaviest}
+use Rattle.cellfile.specs.Files.{cellsOf, stepsOf, pairsOf, asName}
+use Rattle.checks.specs.Refusals.{Row, badPairing, noPairing, shortOutput}
+use Rattle.checks.proofs.Layers.{call-passes}
+use Rattle.starting.specs.Steps.{graphIn, stand}
+use Rattle.reduction.specs.Calls.{replayShort, replaying}
+use Rattle.checks.proofs.Accepted.{accepted-list}
+use Rattle.starting.proofs.Courses.{list-graph}
+use Rattle.lifting.specs.Calls.{graphAfter, liftedFile, bySteps, slipRows, liftFile, lifting}
+use Rattle.matching.specs.Solve.{solution}
+use Rattle.solving.proofs.Solution.{solution-heaviest}
 use Rattle.lifting.proofs.Filing.{file-read, file-formed, all-entries, lifted-pairing, heaviest-lifted}
-use Rattle.claims.specs.Demand.{storeOf, shortOf, PairingOf, HeaviestOf, Writes}
-use Rattle.claims.specs.Demand.{Allowed, Liftable, ShortKeeps, LiftKeeps, DemandThree}
+use Rattle.claims.specs.Demand.{storeOf, shortOf, PairingOf, HeaviestOf, Writes, Allowed, Liftable, ShortKeeps}
+use Rattle.claims.specs.Demand.{LiftKeeps, DemandThree}
 use Rattle.claims.specs.Claims.{reduceSlip, reduceShort}
-use Rattle.claims.proofs.Slips.{rs, after, taken, by-steps, carried-is, graph-after, short-graph}
-use Rattle.claims.proofs.Slips.{pairing-after, after-pairing, heaviest-after, after-heaviest}
+use Rattle.claims.proofs.Slips.{rs, after, taken, by-steps, carried-is, graph-after, short-graph, pairing-after}
+use Rattle.claims.proofs.Slips.{after-pairing, heaviest-after, after-heaviest}
 
 -- ---- refusal 12, and the rows of the calls after those of the list
 
@@ -66,7 +68,7 @@ module _ (list slip : List ℕ) (h : Allowed list slip) where
 
   whole : NoGainNoLoss (cellsOf list) (storeOf list) (h .steps)
   whole =
-      no-gain-no-loss (cellsOf list) (storeOf list) (list-accepted list (h .accepted) .1) (rs list slip h) (h .steps)
+      no-gain-no-loss (cellsOf list) (storeOf list) (accepted-list list (h .accepted) .1) (rs list slip h) (h .steps)
       (taken list slip h)
 
   -- the graph left and the short list give the same points
@@ -137,13 +139,13 @@ module _ (list slip : List ℕ) (h : Allowed list slip) where
     pub lifted-is : pairsOf (liftFile list slip pairing) ≡ filed (lift (graphIn list) (h .steps) (pairsOf pairing))
     lifted-is =
         ap pairsOf same-lifted
-        ∙ file-read (list-accepted list (h .accepted) .0) (all-entries list (h .accepted))
+        ∙ file-read (accepted-list list (h .accepted) .0) (all-entries list (h .accepted))
         (lift (graphIn list) (h .steps) m) store-pairing
 
     pub lift-keeps : LiftKeeps list (replayShort list slip) pairing (liftFile list slip pairing)
     lift-keeps = record {
       formed = ap (badPairing (cellsOf list)) same-lifted
-          ∙ file-formed (list-accepted list (h .accepted) .0) (all-entries list (h .accepted))
+          ∙ file-formed (accepted-list list (h .accepted) .0) (all-entries list (h .accepted))
           (lift (graphIn list) (h .steps) m) store-pairing;
       pairs = subst (PairingOf (storeOf list)) (sym lifted-is) (whole .exact m fits .0);
       exact =

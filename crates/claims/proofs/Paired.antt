@@ -9,10 +9,10 @@ use Rattle.matching.specs.Listed.{points}
 use Rattle.matching.specs.Graph.{cellsLeft}
 use Rattle.matching.specs.Steps.{name}
 use Rattle.cellfile.specs.Files.{cellsOf, pairsOf, carriedOf}
-use Rattle.cellfile.specs.Refusals.{Row, crowded}
-use Rattle.cellfile.specs.Weigh.{weighing}
-use Rattle.cellfile.proofs.Layers.{call-passes}
-use Rattle.reduction.specs.Calls.{reduceSteps}
+use Rattle.checks.specs.Refusals.{Row, crowded}
+use Rattle.weighing.specs.Weigh.{weighing}
+use Rattle.checks.proofs.Layers.{call-passes}
+use Rattle.starting.specs.Steps.{reduceSteps}
 use Rattle.reduction.proofs.Reducing.{reduce-allowed}
 use Rattle.lifting.specs.Calls.{graphAfter, liftedFile, solveFile, liftFile, pairingFile, pairing}
 use Rattle.claims.specs.Demand.{AcceptedList, storeOf, shortOf, HeaviestOf, Writes, Allowed, Liftable}

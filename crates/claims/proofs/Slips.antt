@@ -24,15 +24,16 @@ use Rattle.matching.proofs.Entries.{joined-graph}
 use Rattle.matching.proofs.Reduce.{replay-fits, replay-is}
 use Rattle.matching.proofs.Demand.{short-fewer}
 use Rattle.cellfile.specs.Files.{File, storeList, shortList as shortLayout, slip as slipLayout, cellsOf, entriesOf}
-use Rattle.cellfile.specs.Files.{asFields, asPair, stepsOf, carriedOf}
+use Rattle.cellfile.specs.Files.{asFields, asPair, stepsOf, carriedOf, asName, numberOf, nameFields}
 use Rattle.cellfile.specs.Fits.{FitsFields, FitsFile}
-use Rattle.cellfile.specs.Refusals.{noRule, badSlip}
+use Rattle.checks.specs.Refusals.{noRule, badSlip}
 use Rattle.cellfile.proofs.All.{all-values}
 use Rattle.cellfile.proofs.RoundTrip.{read-write, length-file}
-use Rattle.cellfile.proofs.Written.{cells-read, entries-written, steps-read, slip-passes}
-use Rattle.reduction.specs.Calls.{graphIn, asName, numberOf, nameFields, shortFile, slipFile, stepsOn, replayShort}
-use Rattle.reduction.proofs.Loading.{list-accepted}
-use Rattle.reduction.proofs.Courses.{list-graph, list-few, left-small, left-graph, steps-few, steps-below}
+use Rattle.checks.proofs.Written.{cells-read, entries-written, steps-read, slip-passes}
+use Rattle.starting.specs.Steps.{graphIn, stepsOn}
+use Rattle.reduction.specs.Calls.{shortFile, slipFile, replayShort}
+use Rattle.checks.proofs.Accepted.{accepted-list}
+use Rattle.starting.proofs.Courses.{list-graph, list-few, left-small, left-graph, steps-few, steps-below}
 use Rattle.claims.specs.Demand.{AcceptedList, shortOf, PairingOf, HeaviestOf, Names, Allowed}
 
 -- ---- what is written is read again
@@ -72,7 +73,7 @@ module _ (list : List ℕ) (h : AcceptedList list) (rs : List (Rule × ℕ)) (ss
   n = cellsOf list
 
   few : n ≤ 1024
-  few = list-accepted list h .0
+  few = accepted-list list h .0
 
   small : (a b : ℕ) → left (graphIn list) ss a b + carried (graphIn list) ss < 17592186044416
   small = left-small list h rs ss allowed
@@ -84,7 +85,7 @@ module _ (list : List ℕ) (h : AcceptedList list) (rs : List (Rule × ℕ)) (ss
   short-few =
       omega (
         arith,
-        short-fewer n (entriesOf storeList list) (list-accepted list h .1) rs ss allowed,
+        short-fewer n (entriesOf storeList list) (accepted-list list h .1) rs ss allowed,
         list-few list h,
       )
 

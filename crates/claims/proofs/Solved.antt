@@ -12,17 +12,19 @@ use Rattle.matching.specs.Pairing.{Pairing, First}
 use Rattle.matching.specs.Graph.{cellsLeft}
 use Rattle.matching.specs.Slip.{left}
 use Rattle.cellfile.specs.Files.{cellsOf, pairsOf}
-use Rattle.cellfile.specs.Refusals.{Row, badPairing, crowded}
-use Rattle.cellfile.proofs.Layers.{call-passes}
-use Rattle.reduction.specs.Calls.{graphIn, replayShort}
-use Rattle.reduction.proofs.Loading.{list-accepted}
-use Rattle.lifting.specs.Calls.{pairFile, graphAfter, solvedFile, bySteps, slipRows, solution, solveFile, solving}
-use Rattle.lifting.proofs.Solution.{solution-filed, solution-heaviest, solution-first}
+use Rattle.checks.specs.Refusals.{Row, badPairing, crowded}
+use Rattle.checks.proofs.Layers.{call-passes}
+use Rattle.starting.specs.Steps.{graphIn}
+use Rattle.reduction.specs.Calls.{replayShort}
+use Rattle.checks.proofs.Accepted.{accepted-list}
+use Rattle.lifting.specs.Calls.{pairFile, graphAfter, solvedFile, bySteps, slipRows, solveFile, solving}
+use Rattle.matching.specs.Solve.{solution}
+use Rattle.solving.proofs.Solution.{solution-filed, solution-heaviest, solution-first}
 use Rattle.lifting.proofs.Filing.{file-read, file-formed, file-longest}
 use Rattle.claims.specs.Demand.{shortOf, PairingOf, HeaviestOf, Writes, Allowed}
 use Rattle.claims.specs.Claims.{leftCells, SolveClaim}
-use Rattle.claims.proofs.Slips.{after, by-steps, graph-after, short-graph, after-pairing}
-use Rattle.claims.proofs.Slips.{heaviest-after, after-heaviest}
+use Rattle.claims.proofs.Slips.{after, by-steps, graph-after, short-graph, after-pairing, heaviest-after}
+use Rattle.claims.proofs.Slips.{after-heaviest}
 use Rattle.claims.proofs.Demand.{roomRow, room-enough, stands}
 
 -- The rows of solve after those of the list, 11 by the number of cells left.
@@ -38,7 +40,7 @@ module _ (list slip : List ℕ) (h : Allowed list slip) where
   it = solution (cellsOf list) (after list slip h)
 
   le : cellsOf list ≤ 1024
-  le = list-accepted list (h .accepted) .0
+  le = accepted-list list (h .accepted) .0
 
   held : Pairing (left (graphIn list) (h .steps)) it
   held = solution-heaviest (cellsOf list) (after list slip h) (graph-after list slip h) .pairing

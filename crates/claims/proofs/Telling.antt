@@ -8,12 +8,13 @@ use Prim.Native.Nat.{ℕ, zero, suc, _≤_, _<_}
 use native.Mathlib.Omega.{arith}
 use lib.ListN.{length, take, drop, length-replicate}
 use lib.Seq.{take-append-seam}
-use Rattle.cellfile.specs.Files.{onto, lent, zeros, Cleared}
-use Rattle.cellfile.specs.Refusals.{first}
-use Rattle.cellfile.specs.Answers.{Answer}
-use Rattle.cellfile.specs.Weigh.{weighing}
-use Rattle.cellfile.proofs.Layers.{callRows, answer-refused}
-use Rattle.reduction.specs.Calls.{written, replayShort, replaying}
+use Rattle.cellfile.specs.Files.{onto}
+use Rattle.buffers.specs.Buffers.{lent, zeros, Cleared}
+use Rattle.checks.specs.Refusals.{first}
+use Rattle.cellfile.specs.Answers.{Answer, written}
+use Rattle.weighing.specs.Weigh.{weighing}
+use Rattle.checks.proofs.Layers.{callRows, answer-refused}
+use Rattle.reduction.specs.Calls.{replayShort, replaying}
 use Rattle.lifting.specs.Calls.{lifting, liftFile}
 use Rattle.claims.specs.Demand.{Allowed, Liftable}
 use Rattle.claims.specs.Claims.{Wrote}

@@ -7,7 +7,7 @@ use lib.ListN.{take}
 use Rattle.matching.specs.Listed.{points}
 use Rattle.cellfile.specs.Files.{pairsOf, carriedOf}
 use Rattle.cellfile.specs.Answers.{Answer}
-use Rattle.cellfile.specs.Weigh.{weighing}
+use Rattle.weighing.specs.Weigh.{weighing}
 use Rattle.reduction.specs.Calls.{replaying}
 use Rattle.lifting.specs.Calls.{lifting, liftFile}
 use Rattle.claims.specs.Demand.{shortOf, ShortKeeps, LiftKeeps}

@@ -18,14 +18,15 @@ use Rattle.matching.specs.Steps.{Rule, Step}
 use Rattle.matching.specs.Ties.{Lifts}
 use Rattle.matching.specs.Published.{Rule23, AllPublished}
 use Rattle.matching.specs.Slip.{AreSteps, SomeStepNot, left, carries, InTurn}
-use Rattle.cellfile.specs.Files.{storeList, largest, cellsOf, stepsOf, pairsOf, carriedOf, asFields, writeFile}
-use Rattle.cellfile.specs.Refusals.{fewWords, badSlip, badPairing}
+use Rattle.cellfile.specs.Files.{storeList, largest, cellsOf, stepsOf, pairsOf, carriedOf, asFields, writeFile, asName}
+use Rattle.checks.specs.Refusals.{fewWords, badSlip, badPairing}
 use Rattle.cellfile.specs.Answers.{Answer}
-use Rattle.cellfile.specs.Weigh.{weighing}
-use Rattle.reduction.specs.Calls.{graphIn, asName, shortFile, slipFile, replayShort, replaying, reduceSteps, reducing}
+use Rattle.weighing.specs.Weigh.{weighing}
+use Rattle.starting.specs.Steps.{graphIn, reduceSteps}
+use Rattle.reduction.specs.Calls.{shortFile, slipFile, replayShort, replaying, reducing}
 use Rattle.lifting.specs.Calls.{pairFile, solveFile, solving, liftFile, lifting, pairingFile, pairing}
-use Rattle.claims.specs.Demand.{AcceptedList, storeOf, shortOf, PairingOf, HeaviestOf, Names, Writes}
-use Rattle.claims.specs.Demand.{Allowed, Liftable}
+use Rattle.claims.specs.Demand.{AcceptedList, storeOf, shortOf, PairingOf, HeaviestOf, Names, Writes, Allowed}
+use Rattle.claims.specs.Demand.{Liftable}
 
 -- The slip and the short list that reduce writes.
 abbrev pub reduceSlip : List ℕ → List ℕ

@@ -15,9 +15,11 @@ use Rattle.matching.specs.Listed.{Entry, joined, listed, points}
 use Rattle.matching.specs.Steps.{Step}
 use Rattle.matching.specs.Slip.{AreSteps}
 use Rattle.cellfile.specs.Files.{storeList, shortList as shortLayout, cellsOf, entriesOf, stepsOf, pairsOf, carriedOf}
-use Rattle.cellfile.specs.Refusals.{first, fewWords, listRows, badSlip, badPairing}
+use Rattle.cellfile.specs.Files.{asName}
+use Rattle.checks.specs.Refusals.{first, fewWords, listRows, badSlip, badPairing}
 use Rattle.cellfile.specs.Answers.{Answer}
-use Rattle.reduction.specs.Calls.{graphIn, asName, replayShort, replaying}
+use Rattle.starting.specs.Steps.{graphIn}
+use Rattle.reduction.specs.Calls.{replayShort, replaying}
 use Rattle.lifting.specs.Calls.{liftFile, lifting}
 
 -- ---- the words

@@ -1,13 +1,14 @@
 // What the calls promise together, of the files that they read and write: specs/Demand and specs/Claims, with the laws
 // in proofs/. One function, private and for no caller but the reader: replay, lift and weigh on one list, slip and
 // pairing, and demand 3 of what they themselves answer and write (specs/Asking).
-use cellfile::Weighed;
 use lifting::Paired;
 use reduction::Replayed;
+use weighing::Weighed;
 ghost use mathlib.Core.Path.{_≡_};
 ghost use lib.ListN.{length};
-ghost use Rattle.cellfile.specs.Files.{lent, Cleared};
-ghost use Rattle.reduction.specs.Calls.{written, replaying, replayShort};
+ghost use Rattle.buffers.specs.Buffers.{lent, Cleared};
+ghost use Rattle.cellfile.specs.Answers.{written};
+ghost use Rattle.reduction.specs.Calls.{replaying, replayShort};
 ghost use Rattle.lifting.specs.Calls.{liftFile};
 ghost use Rattle.claims.specs.Asking.{asked, lifts, asking, Tells};
 
@@ -51,7 +52,7 @@ fn ask(
         Replayed::Refused(k) => Asked::Refused(k),
         Replayed::Length(i) => match lifting::lift(list, slip, pairing, work_a, work_b, lifted) {
             Paired::Refused(k) => Asked::Refused(k),
-            Paired::Length(j) => match cellfile::weigh(list, &lifted[..j], work_a, work_b) {
+            Paired::Length(j) => match weighing::weigh(list, &lifted[..j], work_a, work_b) {
                 Weighed::Refused(k) => Asked::Refused(k),
                 Weighed::Points(p) => Asked::Answered {
                     short: i,

@@ -16,7 +16,7 @@ use Rattle.slots.specs.Found.{LastSlot, Only}
 use Rattle.slots.specs.declared.read.Other.{Other}
 use Rattle.slots.proofs.Graphs.{joins-points}
 use Rattle.slots.proofs.Scanning.{slot-joins, joins-turned, joins-some, joins-has, slots-on}
-use Rattle.steps.proofs.Scans.{joins-same}
+use Rattle.finding.proofs.Scans.{joins-same}
 use Rattle.leaves.specs.Runs.{Kept, Slack, Due}
 
 -- a slot whose other cell is a leaf

@@ -16,12 +16,13 @@ use Rattle.matching.proofs.Tally.{cells-most}
 use Rattle.matching.proofs.Reduce.{replay-fits}
 use Rattle.matching.proofs.Demand.{slip-graph}
 use Rattle.cellfile.specs.Files.{storeList, cellsOf}
-use Rattle.cellfile.specs.Refusals.{first, listRows}
-use Rattle.reduction.specs.Calls.{graphIn}
-use Rattle.reduction.specs.Running.{After, Small}
-use Rattle.reduction.proofs.Loading.{list-accepted}
-use Rattle.reduction.proofs.Courses.{list-graph, left-small}
-use Rattle.reduction.proofs.Coursing.{trail-room}
+use Rattle.checks.specs.Refusals.{first, listRows}
+use Rattle.starting.specs.Steps.{graphIn}
+use Rattle.running.specs.Running.{After}
+use Rattle.taking.specs.Trail.{Small}
+use Rattle.checks.proofs.Accepted.{accepted-list}
+use Rattle.starting.proofs.Courses.{list-graph, left-small}
+use Rattle.taking.proofs.Trail.{trail-room}
 use Rattle.partners.specs.Back.{Mates}
 use Rattle.partners.specs.Table.{TrailKept}
 use Rattle.partners.proofs.Marking.{words-same}
@@ -62,7 +63,7 @@ module _ (list : List ℕ) (ok : first (listRows storeList list) ≡ 0) (ss : Li
     {n slots on-trail points steps : ℕ} {w1 w2 : List ℕ} (cells : n ≡ cellsOf list)
     (a : After (graphIn list) ss slots on-trail points steps w1 w2) where
   pub few : n ≤ 1024
-  few = omega (arith, cells, list-accepted list ok .0)
+  few = omega (arith, cells, accepted-list list ok .0)
 
   pub graph : Graph n (graphIn list)
   graph = rw cells (list-graph list ok)

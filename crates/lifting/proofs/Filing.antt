@@ -24,16 +24,17 @@ use Rattle.matching.proofs.Fits.{Stands}
 use Rattle.matching.proofs.Reduce.{replay-fits}
 use Rattle.matching.proofs.Demand.{slip-lifted, slip-brought, no-gain-no-loss}
 use Rattle.cellfile.specs.Files.{storeList, pairing as pairingLayout, cellsOf, entriesOf, pairsOf, pairFields}
-use Rattle.cellfile.specs.Refusals.{first, listRows, badPairing}
+use Rattle.checks.specs.Refusals.{first, listRows, badPairing}
 use Rattle.cellfile.proofs.RoundTrip.{length-file}
-use Rattle.cellfile.proofs.Written.{pairs-read, pairing-passes}
-use Rattle.reduction.specs.Calls.{graphIn, reduceSteps}
-use Rattle.reduction.proofs.Loading.{list-accepted}
-use Rattle.reduction.proofs.Courses.{list-graph, left-graph}
+use Rattle.checks.proofs.Written.{pairs-read, pairing-passes}
+use Rattle.starting.specs.Steps.{graphIn, reduceSteps}
+use Rattle.checks.proofs.Accepted.{accepted-list}
+use Rattle.starting.proofs.Courses.{list-graph, left-graph}
 use Rattle.reduction.proofs.Reducing.{reduce-allowed}
 use Rattle.partners.proofs.Tabled.{pairing-half}
-use Rattle.lifting.specs.Calls.{pairFile, graphAfter, pairingFile, solution}
-use Rattle.lifting.proofs.Solution.{solution-heaviest}
+use Rattle.lifting.specs.Calls.{pairFile, graphAfter, pairingFile}
+use Rattle.matching.specs.Solve.{solution}
+use Rattle.solving.proofs.Solution.{solution-heaviest}
 
 -- ---- a pairing of a graph, as a file
 
@@ -93,7 +94,7 @@ module _ (list : List ℕ) (h : first (listRows storeList list) ≡ 0) where
 
   -- the graph of all entries
   pub all-entries : Graph n (joined store)
-  all-entries = joined-graph n store (list-accepted list h .1)
+  all-entries = joined-graph n store (accepted-list list h .1)
 
   module _ (rs : List (Rule × ℕ)) (ss : List Step) (allowed : replay n (graphIn list) rs ≡ some ss) where
     stands : Stands (graphIn list) ss
@@ -107,7 +108,7 @@ module _ (list : List ℕ) (h : first (listRows storeList list) ≡ 0) where
     pub heaviest-lifted : (m : List Pair) → Heaviest (left (graphIn list) ss) (left (graphIn list) ss) m
         → Heaviest (joined store) (listed store) (filed (lift (graphIn list) ss m))
     heaviest-lifted m q =
-        let x = no-gain-no-loss n store (list-accepted list h .1) rs ss allowed .exact m (q .pairing) in
+        let x = no-gain-no-loss n store (accepted-list list h .1) rs ss allowed .exact m (q .pairing) in
         record {
           pairing = x .0;
           most = λ k p. (
@@ -134,4 +135,4 @@ module _ (list : List ℕ) (h : first (listRows storeList list) ≡ 0) where
 
   pub pairing-read : pairsOf (pairingFile list) ≡ filed (lift (graphIn list) (reduceSteps list) it)
   pairing-read =
-      file-read (list-accepted list h .0) all-entries (lift (graphIn list) (reduceSteps list) it) pairing-pairing
+      file-read (accepted-list list h .0) all-entries (lift (graphIn list) (reduceSteps list) it) pairing-pairing

@@ -1,10 +1,6 @@
--- The laws of solving, lifting and pairing.
-pub mod Renaming
-pub mod Gathering
-pub mod Placing
+-- The laws of solve, lift and pair.
 pub mod After
 pub mod Pairs
-pub mod Solution
 pub mod Filing
 pub mod Solves
 pub mod Returning

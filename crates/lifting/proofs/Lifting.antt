@@ -18,19 +18,20 @@ use Rattle.matching.specs.Slip.{replay, lift}
 use Rattle.matching.proofs.Pairing.{is-pairing}
 use Rattle.matching.proofs.More.{short-more}
 use Rattle.matching.proofs.Reduce.{replay-fits}
-use Rattle.cellfile.specs.Files.{cellsOf, countOf, stepsOf, pairsOf}
-use Rattle.cellfile.specs.Refusals.{Row, first, noPairing}
+use Rattle.cellfile.specs.Files.{cellsOf, countOf, stepsOf, pairsOf, asName}
+use Rattle.checks.specs.Refusals.{Row, first, noPairing}
 use Rattle.cellfile.specs.Answers.{Answer, answer}
-use Rattle.cellfile.proofs.Rows.{first-none}
-use Rattle.cellfile.proofs.Layers.{answer-accepted}
+use Rattle.checks.proofs.Rows.{first-none}
+use Rattle.checks.proofs.Layers.{answer-accepted}
 use Rattle.slots.specs.Slots.{graphOf}
-use Rattle.reduction.specs.Pairs.{Pairs, pairWord}
-use Rattle.reduction.specs.Calls.{graphIn, asName, stepsOn}
-use Rattle.reduction.specs.Writing.{Does}
-use Rattle.reduction.specs.Starting.{slipStart, StartDone}
-use Rattle.reduction.proofs.Layers.{refused, passed}
-use Rattle.reduction.proofs.Listing.{holds-pairs}
-use Rattle.reduction.proofs.Courses.{list-graph}
+use Rattle.running.specs.Pairs.{Pairs}
+use Rattle.cellfile.specs.Words.{shortWord}
+use Rattle.starting.specs.Steps.{graphIn, stepsOn}
+use Rattle.checks.specs.Answering.{Does}
+use Rattle.starting.specs.Starting.{slipStart, StartDone}
+use Rattle.checks.proofs.Answering.{refused, passed}
+use Rattle.running.proofs.Listing.{holds-pairs}
+use Rattle.starting.proofs.Courses.{list-graph}
 use Rattle.lifting.specs.Calls.{pairFile, liftFile, liftedFile, graphAfter}
 use Rattle.partners.specs.Table.{Entered}
 use Rattle.lifting.specs.Ending.{ReturnThere, Returns}
@@ -95,7 +96,7 @@ module _ {n e t : ℕ} {w1 w2 : List ℕ} (h : TailThere n e t w1 w2) where
 
       module _ (v1 : List ℕ) {r : ℕ} (same : length v1 ≡ length w1) (most : r ≤ 4096)
           (count : r ≡ length (shortList 1024 (graphOf e w1)))
-          (words : take r v1 ≡ map pairWord (shortList 1024 (graphOf e w1))) where
+          (words : take r v1 ≡ map shortWord (shortList 1024 (graphOf e w1))) where
         abbrev formed : PairingThere n t pairing k r v1 w2
         formed = record {
           on = h .on;
@@ -109,7 +110,7 @@ module _ {n e t : ℕ} {w1 w2 : List ℕ} (h : TailThere n e t w1 w2) where
             room2 = h .holds .room2;
             most = most;
             length-is = count ∙ ap length short-is;
-            words = words ∙ ap (map pairWord) short-is;
+            words = words ∙ ap (map shortWord) short-is;
           };
         }
 

@@ -8,14 +8,12 @@ use lib.ListN.{length, take, length-map}
 use lib.Seq.{length-take-le}
 use Rattle.matching.specs.Pairs.{Pair, Each}
 use Rattle.cellfile.specs.Fields.{fields}
-use Rattle.cellfile.specs.Files.{pairing as pairingLayout, writeFile, onto}
-use Rattle.cellfile.specs.Loops.{fileOf}
+use Rattle.cellfile.specs.Files.{pairing as pairingLayout, writeFile, onto, pairFields}
+use Rattle.cellfile.specs.Words.{fileOf, pairWord}
 use Rattle.cellfile.proofs.Fields.{fields-packed}
 use Rattle.cellfile.proofs.RoundTrip.{length-file}
-use Rattle.reduction.specs.Writing.{Does}
-use Rattle.reduction.proofs.Layers.{no-room, rooms}
-use Rattle.cellfile.specs.Files.{pairFields}
-use Rattle.partners.specs.Words.{pairWord}
+use Rattle.checks.specs.Answering.{Does}
+use Rattle.checks.proofs.Answering.{no-room, rooms}
 use Rattle.lifting.specs.Ending.{wordsFile}
 
 pairs-length : (n r : ℕ) (w1 : List ℕ) → r ≤ length w1 → 4 + 3 * r ≡ length (wordsFile n r w1)

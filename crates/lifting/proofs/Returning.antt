@@ -17,9 +17,9 @@ use Rattle.matching.proofs.Filed.{filed-pairing}
 use Rattle.matching.proofs.Reduce.{replay-fits}
 use Rattle.matching.proofs.Demand.{slip-lifted}
 use Rattle.cellfile.specs.Answers.{Answer}
-use Rattle.reduction.specs.Writing.{Does}
+use Rattle.checks.specs.Answering.{Does}
 use Rattle.lifting.specs.Calls.{pairFile}
-use Rattle.partners.specs.Words.{pairWord}
+use Rattle.cellfile.specs.Words.{pairWord}
 use Rattle.partners.specs.Back.{BackThere, Lifted}
 use Rattle.partners.specs.Table.{TableThere, Listed}
 use Rattle.lifting.specs.Ending.{wordsFile, ReturnThere}

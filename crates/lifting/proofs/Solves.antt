@@ -12,23 +12,23 @@ use Rattle.matching.specs.Pairs.{Pair, Points}
 use Rattle.matching.specs.Graph.{cellsLeft}
 use Rattle.matching.specs.Steps.{Step}
 use Rattle.matching.proofs.Sums.{each-map}
-use Rattle.cellfile.specs.Files.{pairing as pairingLayout, writeFile, cellsOf, stepsOf}
-use Rattle.cellfile.specs.Refusals.{first}
+use Rattle.cellfile.specs.Files.{pairing as pairingLayout, writeFile, cellsOf, stepsOf, asName, pairFields}
+use Rattle.checks.specs.Refusals.{first}
 use Rattle.cellfile.specs.Answers.{Answer, answer}
 use Rattle.slots.specs.Slots.{graphOf}
-use Rattle.reduction.specs.Calls.{asName, stepsOn}
-use Rattle.reduction.specs.Writing.{Does}
-use Rattle.reduction.specs.Starting.{slipStart, StartDone}
-use Rattle.reduction.proofs.Layers.{refused, passed}
-use Rattle.reduction.proofs.Courses.{left-there}
-use Rattle.cellfile.specs.Files.{pairFields}
-use Rattle.lifting.specs.Calls.{pairFile, solution, graphAfter, solvedFile, solveFile, bySteps}
-use Rattle.lifting.specs.Left.{LeftThere, SolvedIn}
+use Rattle.starting.specs.Steps.{stepsOn}
+use Rattle.checks.specs.Answering.{Does}
+use Rattle.starting.specs.Starting.{slipStart, StartDone}
+use Rattle.checks.proofs.Answering.{refused, passed}
+use Rattle.starting.proofs.Courses.{left-there}
+use Rattle.lifting.specs.Calls.{pairFile, graphAfter, solvedFile, solveFile, bySteps}
+use Rattle.matching.specs.Solve.{solution}
+use Rattle.solving.specs.Left.{LeftThere, SolvedIn}
 use Rattle.lifting.specs.Ending.{wordsFile}
 use Rattle.lifting.specs.Tail.{crowdedRow}
 use Rattle.lifting.specs.Solving.{solveRows}
 use Rattle.lifting.proofs.Pairs.{pairs-file}
-use Rattle.lifting.proofs.Solution.{solution-filed, solution-cells}
+use Rattle.solving.proofs.Solution.{solution-filed, solution-cells}
 
 -- ---- a graph in the slots
 

@@ -15,23 +15,23 @@ use Rattle.matching.specs.Slip.{lift}
 use Rattle.matching.proofs.Sums.{each-map}
 use Rattle.matching.proofs.Put.{pair-below, pair-apart}
 use Rattle.cellfile.specs.Files.{cellsOf}
-use Rattle.cellfile.specs.Refusals.{first}
+use Rattle.checks.specs.Refusals.{first}
 use Rattle.cellfile.specs.Answers.{Answer}
 use Rattle.slots.specs.Slots.{graphOf}
-use Rattle.reduction.specs.Calls.{graphIn, reduceSteps}
-use Rattle.reduction.specs.Starting.{listStart, StartDone}
-use Rattle.reduction.specs.Writing.{Does}
-use Rattle.reduction.proofs.Layers.{refused, passed}
+use Rattle.starting.specs.Steps.{graphIn, reduceSteps}
+use Rattle.starting.specs.Starting.{listStart, StartDone}
+use Rattle.checks.specs.Answering.{Does}
+use Rattle.checks.proofs.Answering.{refused, passed}
 use Rattle.reduction.proofs.Reducing.{reduce-allowed, reduce-after}
 use Rattle.partners.specs.Back.{Mates}
-use Rattle.partners.specs.Table.{TrailKept}
-use Rattle.partners.specs.Words.{WordsThere}
-use Rattle.lifting.specs.Calls.{solution, pairFile, graphAfter, pairingFile}
-use Rattle.lifting.specs.Left.{LeftThere, SolvedIn}
+use Rattle.partners.specs.Table.{TrailKept, WordsThere}
+use Rattle.matching.specs.Solve.{solution}
+use Rattle.lifting.specs.Calls.{pairFile, graphAfter, pairingFile}
+use Rattle.solving.specs.Left.{LeftThere, SolvedIn}
 use Rattle.lifting.specs.Ending.{ReturnThere, Returns}
 use Rattle.lifting.specs.Tail.{after, TailThere, Tails, crowdedRow}
 use Rattle.lifting.proofs.After.{after-graph, after-small, return-there, tail-there}
-use Rattle.lifting.proofs.Solution.{solution-heaviest}
+use Rattle.solving.proofs.Solution.{solution-heaviest}
 
 -- ---- the tail
 

@@ -7,9 +7,9 @@ use Rattle.matching.specs.Pairing.{isPairing}
 use Rattle.matching.specs.Listed.{joined, listed}
 use Rattle.cellfile.specs.Bytes.{number}
 use Rattle.cellfile.specs.Fields.{fields, readRecords}
-use Rattle.cellfile.specs.Refusals.{fewWords, notAList, tooLarge, wrongLength, strayEntry, unordered}
-use Rattle.cellfile.specs.Refusals.{misheaded, badSlip, badPairing}
-use Rattle.cellfile.proofs.Worked.{list, pairing}
+use Rattle.checks.specs.Refusals.{fewWords, notAList, tooLarge, wrongLength, strayEntry, unordered, misheaded, badSlip}
+use Rattle.checks.specs.Refusals.{badPairing}
+use Rattle.weighing.proofs.Worked.{list, pairing}
 use Rattle.lifting.specs.Calls.{lifting}
 
 -- kind 3, two cells, no step

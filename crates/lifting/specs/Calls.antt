@@ -1,24 +1,21 @@
 -- Solve, lift and pair: what the calls answer and write.
-use mathlib.Core.Bool.{cond}
 use mathlib.Core.List.{List, [], _∷_, _++_, map}
 use mathlib.Core.Option.{some, none}
-use Prim.Native.Nat.{ℕ, zero, suc}
-use lib.Dec.{ltb}
+use Prim.Native.Nat.{ℕ}
 use lib.ListN.{length}
 use Rattle.matching.specs.Pairs.{Pair, Points}
 use Rattle.matching.specs.Listed.{filed}
-use Rattle.matching.specs.Graph.{degree, cellsLeft}
+use Rattle.matching.specs.Graph.{cellsLeft}
 use Rattle.matching.specs.Steps.{Step}
 use Rattle.matching.specs.Slip.{left, lift}
-use Rattle.matching.specs.Solve.{solve}
-use Rattle.cellfile.specs.Files.{storeList, pairing as pairingLayout, cellsOf, stepsOf, pairsOf, pairFields}
-use Rattle.cellfile.specs.Files.{writeFile}
-use Rattle.cellfile.specs.Refusals.{Row, first, fewWords, listRows, badSlip, disallowed, badPairing, noPairing}
-use Rattle.cellfile.specs.Refusals.{crowded, shortOutput}
+use Rattle.cellfile.specs.Files.{storeList, pairing as pairingLayout, cellsOf, stepsOf, pairsOf, pairFields, writeFile}
+use Rattle.checks.specs.Refusals.{Row, first, fewWords, listRows, badSlip, disallowed, badPairing, noPairing, crowded}
+use Rattle.checks.specs.Refusals.{shortOutput}
 use Rattle.cellfile.specs.Answers.{Answer, answer}
-use Rattle.reduction.specs.Calls.{graphIn, stepsOn, stand, reduceSteps}
+use Rattle.starting.specs.Steps.{graphIn, stepsOn, stand, reduceSteps}
 use Rattle.lifting.specs.declared.Paired.{Paired}
 use Rattle.lifting.specs.declared.Paired.the-variants.{Refused, Length}
+use Rattle.matching.specs.Solve.{solution}
 
 -- The number and the values of each case of the answer enum: the length of the pairing's file.
 abbrev pub paired : Paired → Answer
@@ -28,14 +25,6 @@ paired (Length m) = (0, m ∷ [])
 -- A pairing as a file.
 abbrev pub pairFile : ℕ → List Pair → List ℕ
 pairFile n m = writeFile pairingLayout (record { cells = n; extra = []; entries = map pairFields (filed m) })
-
--- The cells below k that have pairs, ascending; 'a heaviest pairing of the remaining graph'.
-unfoldable pub withPairs : ℕ → Points → ℕ → List ℕ
-withPairs n w zero = []
-withPairs n w (suc k) = withPairs n w k ++ cond (ltb 0 (degree n w k)) (k ∷ []) []
-
-abbrev pub solution : ℕ → Points → List Pair
-solution n w = solve n w (withPairs n w n)
 
 -- What the calls write, and their answers, for the lengths of the work buffers and of the output.
 module _ (list : List ℕ) where

@@ -5,9 +5,9 @@ use Prim.Native.Nat.{ℕ}
 use lib.ListN.{take}
 use Rattle.matching.specs.Slip.{lift}
 use Rattle.cellfile.specs.Files.{pairing as pairingLayout, writeFile}
-use Rattle.cellfile.specs.Loops.{fileOf}
+use Rattle.cellfile.specs.Words.{fileOf}
 use Rattle.cellfile.specs.Answers.{Answer}
-use Rattle.reduction.specs.Writing.{Does}
+use Rattle.checks.specs.Answering.{Does}
 use Rattle.lifting.specs.Calls.{pairFile}
 use Rattle.partners.specs.Back.{BackThere}
 

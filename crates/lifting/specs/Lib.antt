@@ -1,7 +1,5 @@
 -- Solving what a slip leaves, lifting a pairing through a slip, and pairing a list.
 pub mod Calls
-pub mod Left
-pub mod Gathered
 pub mod Ending
 pub mod Tail
 pub mod Solving

@@ -4,11 +4,11 @@ use Prim.Native.Nat.{ℕ}
 use Rattle.matching.specs.Pairs.{Points}
 use Rattle.matching.specs.Slip.{lift}
 use Rattle.cellfile.specs.Files.{cellsOf, pairsOf}
-use Rattle.cellfile.specs.Refusals.{Row, badPairing, noPairing}
+use Rattle.checks.specs.Refusals.{Row, badPairing, noPairing}
 use Rattle.cellfile.specs.Answers.{Answer}
-use Rattle.reduction.specs.Calls.{graphIn}
-use Rattle.reduction.specs.Writing.{Does}
-use Rattle.reduction.specs.Starting.{slipStart}
+use Rattle.starting.specs.Steps.{graphIn}
+use Rattle.checks.specs.Answering.{Does}
+use Rattle.starting.specs.Starting.{slipStart}
 use Rattle.lifting.specs.Calls.{pairFile, bySteps, graphAfter}
 use Rattle.partners.specs.Table.{FileThere}
 use Rattle.lifting.specs.Tail.{TrailThere, after, TailThere}

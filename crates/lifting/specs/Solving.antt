@@ -2,8 +2,8 @@
 use mathlib.Core.List.{List, [], _∷_, _++_}
 use Prim.Native.Nat.{ℕ}
 use Rattle.matching.specs.Graph.{cellsLeft}
-use Rattle.cellfile.specs.Refusals.{Row}
-use Rattle.reduction.specs.Starting.{slipStart}
+use Rattle.checks.specs.Refusals.{Row}
+use Rattle.starting.specs.Starting.{slipStart}
 use Rattle.lifting.specs.Calls.{cells, graphAfter, bySteps}
 use Rattle.lifting.specs.Tail.{crowdedRow}
 

@@ -9,13 +9,13 @@ use Rattle.matching.specs.Pairs.{Points}
 use Rattle.matching.specs.Graph.{Graph, cellsLeft}
 use Rattle.matching.specs.Steps.{Step, name}
 use Rattle.matching.specs.Slip.{replay, left, lift}
-use Rattle.cellfile.specs.Refusals.{Row, crowded}
+use Rattle.checks.specs.Refusals.{Row, crowded}
 use Rattle.cellfile.specs.Answers.{Answer}
 use Rattle.slots.specs.Slots.{Holds, graphOf}
-use Rattle.steps.specs.Trail.{trail}
-use Rattle.reduction.specs.Running.{Small}
-use Rattle.reduction.specs.Writing.{Does}
-use Rattle.lifting.specs.Calls.{pairFile, solution}
+use Rattle.taking.specs.Trail.{trail, Small}
+use Rattle.checks.specs.Answering.{Does}
+use Rattle.lifting.specs.Calls.{pairFile}
+use Rattle.matching.specs.Solve.{solution}
 
 -- The trail of t words of steps that are allowed on a graph of n cells.
 pub record TrailThere (n t : ℕ) (w2 : List ℕ) : Type 0 where

@@ -1,21 +1,22 @@
 // Inner functions of solve and lift: see specs/Solving and specs/Lifting.
 use crate::Paired;
 use crate::ends;
-use crate::solving;
-use crate::solving::Solved;
-use cellfile::form;
-use cellfile::form::Checked;
+use checks;
+use checks::Checked;
 use partners::table;
-use reduction::lists;
-use reduction::starting;
-use reduction::starting::Started;
+use running::lists;
+use solving;
+use solving::Solved;
+use starting;
+use starting::Started;
 ghost use mathlib.Core.List.{_∷_, []};
 ghost use Rattle.matching.specs.Graph.{cellsLeft};
-ghost use Rattle.cellfile.specs.Files.{lent};
+ghost use Rattle.buffers.specs.Buffers.{lent};
 ghost use Rattle.slots.specs.Slots.{graphOf};
-ghost use Rattle.reduction.specs.Writing.{Does};
-ghost use Rattle.lifting.specs.Calls.{paired, pairFile, solution, solveFile, liftFile};
-ghost use Rattle.lifting.specs.Left.{LeftThere};
+ghost use Rattle.checks.specs.Answering.{Does};
+ghost use Rattle.lifting.specs.Calls.{paired, pairFile, solveFile, liftFile};
+ghost use Rattle.matching.specs.Solve.{solution};
+ghost use Rattle.solving.specs.Left.{LeftThere};
 ghost use Rattle.lifting.specs.Tail.{TailThere, crowdedRow};
 ghost use Rattle.lifting.specs.Solving.{solveRows};
 ghost use Rattle.lifting.specs.Lifting.{liftStart, PairingThere, LiftsPairing, LiftsTail};
@@ -94,7 +95,7 @@ fn lift_tail(
         (now (out .entry)) (now (out .exit)) (paired a) ⌝ }
 {
     let r = lists::finish(w1, e);
-    match form::check_pairing(pairing, n) {
+    match checks::check_pairing(pairing, n) {
         Checked::Refused(k) => Paired::Refused(k),
         Checked::Accepted { n: _, m: k } => lift_pairing(n, t, pairing, k, r, w1, w2, out),
     }

@@ -6,7 +6,7 @@ use partners::table;
 ghost use mathlib.Core.List.{_∷_, []};
 ghost use Prim.Native.Nat.{_≤_};
 ghost use lib.ListN.{length};
-ghost use Rattle.reduction.specs.Writing.{Does};
+ghost use Rattle.checks.specs.Answering.{Does};
 ghost use Rattle.lifting.specs.Calls.{paired};
 ghost use Rattle.lifting.specs.Ending.{wordsFile, ReturnThere, Returns};
 

@@ -1,16 +1,15 @@
-// Solving what a slip leaves, lifting a pairing through a slip, and pairing a list.
+// Solving what a slip leaves, lifting a pairing through a slip, and pairing a list: the calls solve, lift and pair.
 mod calls;
 mod ends;
 mod pairing;
-pub mod solving;
 
-use cellfile::work;
+use buffers;
 ghost use mathlib.Core.Path.{_≡_};
 ghost use lib.ListN.{length};
-ghost use Rattle.cellfile.specs.Files.{lent, Cleared};
-ghost use Rattle.reduction.specs.Calls.{written};
-ghost use Rattle.lifting.specs.Calls.{paired, solving, solveFile, lifting, liftFile};
-ghost use Rattle.lifting.specs.Calls.{pairing as pairingAnswer, pairingFile};
+ghost use Rattle.buffers.specs.Buffers.{lent, Cleared};
+ghost use Rattle.cellfile.specs.Answers.{written};
+ghost use Rattle.lifting.specs.Calls.{paired, solving, solveFile, lifting, liftFile, pairing as pairingAnswer};
+ghost use Rattle.lifting.specs.Calls.{pairingFile};
 
 // The answer of solve, lift and pair: a refusal's number, or the length of the pairing.
 pub enum Paired {
@@ -34,8 +33,8 @@ pub fn solve(
         × Cleared (now («work_b» .entry)) (now («work_b» .exit)) ⌝ }
 {
     let r = calls::solve_in(list, slip, work_a, work_b, pairing);
-    work::clear(work_a);
-    work::clear(work_b);
+    buffers::clear(work_a);
+    buffers::clear(work_b);
     r
 }
 
@@ -56,8 +55,8 @@ pub fn lift(
         × Cleared (now («work_b» .entry)) (now («work_b» .exit)) ⌝ }
 {
     let r = calls::lift_in(list, slip, pairing, work_a, work_b, lifted);
-    work::clear(work_a);
-    work::clear(work_b);
+    buffers::clear(work_a);
+    buffers::clear(work_b);
     r
 }
 
@@ -72,7 +71,7 @@ pub fn pair(list: &[u8], work_a: &mut [u64], work_b: &mut [u64], pairing: &mut [
         × Cleared (now («work_b» .entry)) (now («work_b» .exit)) ⌝ }
 {
     let r = pairing::pair_in(list, work_a, work_b, pairing);
-    work::clear(work_a);
-    work::clear(work_b);
+    buffers::clear(work_a);
+    buffers::clear(work_b);
     r
 }

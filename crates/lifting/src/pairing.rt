@@ -1,17 +1,18 @@
 // Inner functions of pair: see specs/Tail.
 use crate::Paired;
 use crate::ends;
-use crate::solving;
-use crate::solving::Solved;
 use partners::table;
-use reduction::starting;
-use reduction::starting::Started;
+use solving;
+use solving::Solved;
+use starting;
+use starting::Started;
 ghost use mathlib.Core.List.{_∷_, [], _++_};
 ghost use Rattle.matching.specs.Graph.{cellsLeft};
-ghost use Rattle.cellfile.specs.Files.{cellsOf, lent};
-ghost use Rattle.reduction.specs.Calls.{reduceSteps};
-ghost use Rattle.reduction.specs.Starting.{listStart};
-ghost use Rattle.reduction.specs.Writing.{Does};
+ghost use Rattle.cellfile.specs.Files.{cellsOf};
+ghost use Rattle.buffers.specs.Buffers.{lent};
+ghost use Rattle.starting.specs.Steps.{reduceSteps};
+ghost use Rattle.starting.specs.Starting.{listStart};
+ghost use Rattle.checks.specs.Answering.{Does};
 ghost use Rattle.lifting.specs.Calls.{paired, graphAfter, pairingFile};
 ghost use Rattle.lifting.specs.Tail.{TailThere, Tails, crowdedRow};
 

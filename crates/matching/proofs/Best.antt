@@ -14,9 +14,8 @@ use Rattle.matching.specs.Best.{barred, H, pays, best}
 use Rattle.matching.specs.Ties.{Within}
 use Rattle.matching.proofs.Tests.{Test, pass, fail, isT, eqT, ltT, notT, mapT, fails}
 use Rattle.matching.proofs.Members.{Meets, Away, meetsT, mem-on, mem-head, mem-apart, mem-more}
-use Rattle.matching.proofs.Sums.{Turned, no-in, times-one, times-none, sum-none, sum-apart, hit-none}
-use Rattle.matching.proofs.Sums.{like-hit, like-once, once-cons}
-use Rattle.matching.proofs.Sums.{without-once, without-none, without-in}
+use Rattle.matching.proofs.Sums.{Turned, no-in, times-one, times-none, sum-none, sum-apart, hit-none, like-hit}
+use Rattle.matching.proofs.Sums.{like-once, once-cons, without-once, without-none, without-in}
 
 -- ---- the recurrences
 

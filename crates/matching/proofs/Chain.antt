@@ -16,9 +16,8 @@ use Rattle.matching.specs.Steps.{chain, chained, undo, outside, down}
 use Rattle.matching.proofs.Tests.{Test, pass, fail, isT, eqT, ltT, notT, andT, orT, holds, fails}
 use Rattle.matching.proofs.Members.{Away, no-mem, mem-on, mem-head, mem-apart, mem-more}
 use Rattle.matching.proofs.Pairs.{Same, sameT}
-use Rattle.matching.proofs.Sums.{Turned, times-none, one-times, sum-apart, sum-unless, turned-same}
-use Rattle.matching.proofs.Sums.{each-keep, keep-and, hit-left, hit-right, hit-some, hit-turned, like-turned}
-use Rattle.matching.proofs.Sums.{once-cons}
+use Rattle.matching.proofs.Sums.{Turned, times-none, one-times, sum-apart, sum-unless, turned-same, each-keep}
+use Rattle.matching.proofs.Sums.{keep-and, hit-left, hit-right, hit-some, hit-turned, like-turned, once-cons}
 use Rattle.matching.proofs.Best.{H-less}
 use Rattle.matching.proofs.Put.{put-at, put-else, put-graph, dropped-out, dropped-held, dropped-graph}
 use Rattle.matching.proofs.Fits.{Segment}

@@ -20,8 +20,8 @@ use Rattle.matching.specs.Shapes.{first}
 use Rattle.matching.proofs.Tests.{Test, pass, fail, eqT, ltT}
 use Rattle.matching.proofs.Members.{no-mem, mem-on, mem-head, mem-more, mem-not, mem-apart, distinct-cons}
 use Rattle.matching.proofs.Pairs.{Same, Apart, sameT}
-use Rattle.matching.proofs.Sums.{touchesT, hit-turned, hit-none, hit-left, hit-right, zero-like, turned-same}
-use Rattle.matching.proofs.Sums.{In, in-cases, no-in}
+use Rattle.matching.proofs.Sums.{touchesT, hit-turned, hit-none, hit-left, hit-right, zero-like, turned-same, In}
+use Rattle.matching.proofs.Sums.{in-cases, no-in}
 use Rattle.matching.proofs.Fits.{Segment, Fits}
 use Rattle.matching.proofs.Put.{pair-apart, dropped-held, dropped-most}
 use Rattle.matching.proofs.Rows.{first-live, first-apart}

@@ -19,18 +19,8 @@ use Rattle.matching.proofs.Tests.{Test, pass, fail, isT, ltT, fails}
 use Rattle.matching.proofs.Pairs.{Same, Apart, sameT}
 use Rattle.matching.proofs.Alls.{Has, Ascends}
 use Rattle.matching.proofs.Listed.{joined-same, listed-same, listed-apart}
-use Rattle.matching.proofs.Sums.{
-  times-le,
-  sum-add,
-  sum-scale,
-  sum-le-all,
-  sum-none,
-  each-map,
-  each-all,
-  same-turned,
-  same-self,
-  like-once,
-}
+use Rattle.matching.proofs.Sums.{times-le, sum-add, sum-scale, sum-le-all, sum-none, each-map, each-all}
+use Rattle.matching.proofs.Sums.{same-turned, same-self, like-once}
 use Rattle.matching.proofs.Pairing.{present, trimmed}
 
 -- What an accepted list is: entries with a < b < n that ascend.

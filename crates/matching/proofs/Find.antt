@@ -16,15 +16,15 @@ use Rattle.matching.specs.Pairs.{Points}
 use Rattle.matching.specs.Graph.{Graph, partners, degree}
 use Rattle.matching.specs.Steps.{Rule, by-leaf, by-ring, by-chain, Step, leaf, ring, chain, name}
 use Rattle.matching.specs.Shapes.{IsRow, Lowest, IsLeaf, IsRing, IsChain, IsStep, first, last, NoLater}
-use Rattle.matching.specs.Find.{Row, row, lowest, isLowest, two, provided, leafOf, ringOf, chainOf}
-use Rattle.matching.specs.Find.{orElse, search, stepAt, firstStep}
+use Rattle.matching.specs.Find.{Row, row, lowest, isLowest, two, provided, leafOf, ringOf, chainOf, orElse}
+use Rattle.matching.specs.Find.{search, stepAt, firstStep}
 use Rattle.matching.proofs.Tests.{Test, pass, fail, isT, eqT, ltT, notT, andT, mapT, fails}
 use Rattle.matching.proofs.Members.{no-mem, mem-on, mem-head, mem-more, mem-one, clash}
 use Rattle.matching.proofs.Fits.{Segment, Fits}
 use Rattle.matching.proofs.Put.{pair-below, pair-apart}
 use Rattle.matching.proofs.Partners.{has-partner, partner-of, partners-one}
-use Rattle.matching.proofs.Rows.{AtEnd, row-read, row-is, is-run, way-out, inner-below, row-of}
-use Rattle.matching.proofs.Rows.{run-two, run-closed, rows-meet, rows-same}
+use Rattle.matching.proofs.Rows.{AtEnd, row-read, row-is, is-run, way-out, inner-below, row-of, run-two}
+use Rattle.matching.proofs.Rows.{run-closed, rows-meet, rows-same}
 use Rattle.matching.proofs.Search.{none-some, Searched, searched, search-some, search-first, search-found}
 
 -- ---- what the tests tell

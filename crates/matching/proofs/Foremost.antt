@@ -19,20 +19,11 @@ use Rattle.matching.specs.Solve.{less, tries, solve}
 use Rattle.matching.proofs.Tests.{Test, pass, fail, isT, eqT, ltT, andT, passes, fails}
 use Rattle.matching.proofs.Members.{no-mem, mem-on, mem-head, mem-apart, mem-more, mem-not, mem-past}
 use Rattle.matching.proofs.Alls.{all-mem, all-members, Ascends}
-use Rattle.matching.proofs.Sums.{sum-none, each-keep, hit-none, hit-some}
-use Rattle.matching.proofs.Sums.{once-cons, without-once, without-none, like-hit}
+use Rattle.matching.proofs.Sums.{sum-none, each-keep, hit-none, hit-some, once-cons, without-once, without-none}
+use Rattle.matching.proofs.Sums.{like-hit}
 use Rattle.matching.proofs.Solve.{less-gone, less-past, less-length, less-ascends}
-use Rattle.matching.proofs.Partner.{
-  mate-left,
-  mate-turned,
-  partner-none,
-  partner-view,
-  partner-of,
-  held-sum,
-  held-free,
-  held-points,
-  first-more,
-}
+use Rattle.matching.proofs.Partner.{mate-left, mate-turned, partner-none, partner-view, partner-of, held-sum}
+use Rattle.matching.proofs.Partner.{held-free, held-points, first-more}
 
 -- ---- pairings of a set of cells
 

@@ -13,8 +13,8 @@ use Rattle.matching.specs.Pairs.{Pair, Points, ι, sum, Each, hit, like,
 use Rattle.matching.specs.Pairing.{Once, mate, partner, First}
 use Rattle.matching.proofs.Tests.{Test, pass, fail, eqT}
 use Rattle.matching.proofs.Pairs.{Same, Apart, sameT}
-use Rattle.matching.proofs.Sums.{times-one, sum-apart, sum-none, each-zero, hit-none, like-self}
-use Rattle.matching.proofs.Sums.{like-turned, like-once, like-hit}
+use Rattle.matching.proofs.Sums.{times-one, sum-apart, sum-none, each-zero, hit-none, like-self, like-turned}
+use Rattle.matching.proofs.Sums.{like-once, like-hit}
 
 -- ---- the partner of a cell
 

@@ -13,12 +13,11 @@ use Rattle.matching.specs.Pairs.{Pair, Points, Each, touches}
 use Rattle.matching.specs.Listed.{Entry, Accepted, listed}
 use Rattle.matching.specs.Graph.{Graph, degree, put, dropped}
 use Rattle.matching.specs.Best.{H, walk}
-use Rattle.matching.specs.Steps.{Rule, by-leaf, by-ring, by-chain, Step, leaf, ring, chain}
-use Rattle.matching.specs.Steps.{leafed, ringed, chained}
+use Rattle.matching.specs.Steps.{Rule, by-leaf, by-ring, by-chain, Step, leaf, ring, chain, leafed, ringed}
+use Rattle.matching.specs.Steps.{chained}
 use Rattle.matching.specs.Shapes.{first, last, IsRow, IsLeaf, IsRing, IsChain, IsStep}
 use Rattle.matching.specs.Slip.{AreSteps}
-use Rattle.matching.specs.Published.{Rule23, Rule24, Part, Removed, Rule25, Rule26}
-use Rattle.matching.specs.Published.{Published, AllPublished}
+use Rattle.matching.specs.Published.{Rule23, Rule24, Part, Removed, Rule25, Rule26, Published, AllPublished}
 use Rattle.matching.proofs.Alls.{all-map, all-has}
 use Rattle.matching.proofs.Pairing.{present}
 use Rattle.matching.proofs.Entries.{has-listed, listed-none, list-pairing, list-trimmed}

@@ -16,8 +16,8 @@ use Rattle.matching.specs.Steps.{Rule, Step, apply, carry, name}
 use Rattle.matching.specs.Find.{stepAt, firstStep}
 use Rattle.matching.specs.Slip.{replay, AreSteps, SomeStepNot, left, carries, carried, reduce, InTurn}
 use Rattle.matching.proofs.Fits.{Fits, Stands}
-use Rattle.matching.proofs.Find.{step-is, step-found, step-none, step-name, is-fits, step-fits}
-use Rattle.matching.proofs.Find.{first-step-is, first-step-first, first-step-none}
+use Rattle.matching.proofs.Find.{step-is, step-found, step-none, step-name, is-fits, step-fits, first-step-is}
+use Rattle.matching.proofs.Find.{first-step-first, first-step-none}
 use Rattle.matching.proofs.Tally.{cells-most}
 use Rattle.matching.proofs.Count.{step-fewer}
 use Rattle.matching.proofs.Exact.{step-graph}

@@ -16,8 +16,8 @@ use Rattle.matching.specs.Best.{H, best, tie, walk}
 use Rattle.matching.specs.Steps.{ring, ringed, undo, outside, down}
 use Rattle.matching.proofs.Tests.{Test, pass, fail, eqT, ltT}
 use Rattle.matching.proofs.Members.{Away, no-mem, mem-head, mem-apart, mem-more}
-use Rattle.matching.proofs.Sums.{Turned, times-one, times-none, sum-apart, each-keep, hit-some}
-use Rattle.matching.proofs.Sums.{like-once, once-cons}
+use Rattle.matching.proofs.Sums.{Turned, times-one, times-none, sum-apart, each-keep, hit-some, like-once}
+use Rattle.matching.proofs.Sums.{once-cons}
 use Rattle.matching.proofs.Best.{H-mono}
 use Rattle.matching.proofs.Put.{put-at, put-else, put-graph, dropped-out, dropped-held, dropped-graph}
 use Rattle.matching.proofs.Fits.{Segment}

@@ -16,8 +16,8 @@ use Rattle.matching.specs.Best.{H, best, tie, walk}
 use Rattle.matching.proofs.Tests.{Test, pass, fail, isT, eqT, orT, fails}
 use Rattle.matching.proofs.Members.{Away, no-mem, mem-apart, mem-more}
 use Rattle.matching.proofs.Pairs.{Same, sameT}
-use Rattle.matching.proofs.Sums.{Turned, sum-append, sum-eq, sum-none, each-append, each-map}
-use Rattle.matching.proofs.Sums.{hit-none, hit-turned}
+use Rattle.matching.proofs.Sums.{Turned, sum-append, sum-eq, sum-none, each-append, each-map, hit-none}
+use Rattle.matching.proofs.Sums.{hit-turned}
 use Rattle.matching.proofs.Best.{best-H, best-each, best-off, best-once}
 use Rattle.matching.proofs.Path.{walk-each}
 use Rattle.matching.proofs.Fits.{Segment}

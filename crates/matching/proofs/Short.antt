@@ -16,25 +16,10 @@ use Rattle.matching.specs.Pairing.{Pairing, Heaviest}
 use Rattle.matching.specs.Listed.{Entry, Before, Accepted, joined, listed, shortAt, shortBelow, shortList}
 use Rattle.matching.specs.Graph.{Graph}
 use Rattle.matching.proofs.Tests.{Test, pass, fail, eqT, ltT, andT}
-use Rattle.matching.proofs.Alls.{
-  all-map,
-  all-append,
-  all-at,
-  Has,
-  has-left,
-  has-right,
-  Ascends,
-  ascends-append,
-}
+use Rattle.matching.proofs.Alls.{all-map, all-append, all-at, Has, has-left, has-right, Ascends, ascends-append}
 use Rattle.matching.proofs.Sums.{each-map}
-use Rattle.matching.proofs.Entries.{
-  accepted-of,
-  listed-graph,
-  listed-joined,
-  joined-above,
-  has-listed,
-  listed-has,
-}
+use Rattle.matching.proofs.Entries.{accepted-of, listed-graph, listed-joined, joined-above, has-listed}
+use Rattle.matching.proofs.Entries.{listed-has}
 
 -- An entry of a graph of n cells.
 pub record EntryOf (n : ℕ) (w : Points) (e : Entry) : Type 0 where

@@ -2,7 +2,7 @@
 -- differs from another pairing of as many points, it leaves the pair out, or takes it where the tie is true.
 -- Assumes nothing.
 use mathlib.Core.Path.{_≡_, refl, sym, _∙_}
-use mathlib.Core.Logic.{_⊎_, inl, inr, _≢_}
+use mathlib.Core.Logic.{inl, inr, _≢_}
 use mathlib.Core.Bool.{Bool, true, false}
 use mathlib.Core.List.{List, [], _∷_}
 use Prim.Native.Nat.{ℕ, _+_, _*_}
@@ -13,10 +13,10 @@ use Rattle.matching.specs.Pairs.{Pair, Points, sum, Each, like, without}
 use Rattle.matching.specs.Best.{H, best}
 use Rattle.matching.specs.Ties.{Within, Earlier}
 use Rattle.matching.proofs.Tests.{Test, pass, fail, eqT}
-use Rattle.matching.proofs.Sums.{Turned, times-one, times-none, none-times, sum-none, sum-apart}
-use Rattle.matching.proofs.Sums.{each-map, and-turn, like-turned, like-self, like-once}
-use Rattle.matching.proofs.Best.{both, Choice, bars, leaves, takes, choice, best-each}
-use Rattle.matching.proofs.Best.{within-out, within-in, within-barred, best-most}
+use Rattle.matching.proofs.Sums.{Turned, times-one, times-none, none-times, sum-none, sum-apart, each-map}
+use Rattle.matching.proofs.Sums.{and-turn, like-turned, like-self, like-once}
+use Rattle.matching.proofs.Best.{both, Choice, bars, leaves, takes, choice, best-each, within-out, within-in}
+use Rattle.matching.proofs.Best.{within-barred, best-most}
 
 -- No pair of the list stands twice in it, in either order.
 abbrev pub Differ : List Pair → Type 0

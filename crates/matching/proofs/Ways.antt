@@ -11,12 +11,12 @@ use native.Mathlib.Omega.{arith}
 use lib.ListN.{length}
 use borrow.Author.Tests.{lt-ltb}
 use Rattle.matching.specs.Lists.{mem, distinct}
-use Rattle.matching.specs.Pairs.{Pair, Points, ι, sum, Each, keep, same, like, held, without, free}
+use Rattle.matching.specs.Pairs.{Pair, Points, ι, sum, Each, keep, same, like, held, without}
 use Rattle.matching.specs.Pairing.{Once, Pairing}
 use Rattle.matching.specs.Graph.{Graph}
 use Rattle.matching.specs.Best.{H, best, tie, walk}
-use Rattle.matching.specs.Steps.{Rule, by-leaf, by-ring, by-chain, Step, leaf, ring, chain}
-use Rattle.matching.specs.Steps.{apply, outweighs, undo}
+use Rattle.matching.specs.Steps.{Rule, by-leaf, by-ring, by-chain, Step, leaf, ring, chain, apply, outweighs}
+use Rattle.matching.specs.Steps.{undo}
 use Rattle.matching.specs.Ties.{Within, MostOf, Earlier, BestOf, WithBest, Outweighs, Undone, Lifts}
 use Rattle.matching.specs.Shapes.{IsRow, IsRing, IsChain, IsStep}
 use Rattle.matching.specs.Slip.{AreSteps, left, lift}

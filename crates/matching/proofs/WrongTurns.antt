@@ -9,20 +9,8 @@ use Rattle.matching.specs.Pairs.{Pair, Points, keep, hit, same, like, he
 use Rattle.matching.specs.Listed.{Entry, listed, points, filed}
 use Rattle.matching.specs.Graph.{partners, put, dropped}
 use Rattle.matching.specs.Best.{H, best, tie, walk}
-use Rattle.matching.specs.Steps.{
-  Rule,
-  by-leaf,
-  by-ring,
-  Step,
-  leaf,
-  ring,
-  chain,
-  leafed,
-  ringed,
-  chained,
-  apply,
-  undo,
-}
+use Rattle.matching.specs.Steps.{Rule, by-leaf, by-ring, Step, leaf, ring, chain, leafed, ringed, chained, apply}
+use Rattle.matching.specs.Steps.{undo}
 use Rattle.matching.specs.Find.{stepAt}
 use Rattle.matching.specs.Slip.{replay, left, lift}
 use Rattle.matching.specs.Worked.{path, direct, chain1}

@@ -7,6 +7,7 @@ use Prim.Native.Nat.{ℕ, zero, suc, _+_}
 use lib.Dec.{eqb, ltb}
 use Rattle.matching.specs.Pairs.{Pair, Points, sum}
 use Rattle.matching.specs.Best.{best}
+use Rattle.matching.specs.Graph.{degree}
 
 -- The pairs of c with some cells, from the last cell down; the pairs of a set of cells, which ascend.
 abbrev pub pairsWith : Points → ℕ → List ℕ → List Pair
@@ -36,3 +37,11 @@ abbrev pub solve : ℕ → Points → List ℕ → List Pair
 solve zero w cs = []
 solve (suc k) w [] = []
 solve (suc k) w (c ∷ cs) = tries (λ p. solve k w (less p cs)) w c cs (solve k w cs)
+
+-- The cells below k that have pairs, ascending; 'a heaviest pairing of the remaining graph'.
+unfoldable pub withPairs : ℕ → Points → ℕ → List ℕ
+withPairs n w zero = []
+withPairs n w (suc k) = withPairs n w k ++ cond (ltb 0 (degree n w k)) (k ∷ []) []
+
+abbrev pub solution : ℕ → Points → List Pair
+solution n w = solve n w (withPairs n w n)

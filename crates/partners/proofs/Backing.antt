@@ -6,7 +6,7 @@ use mathlib.Core.Path.{_≡_, refl, sym, ap, subst, _∙_}
 use mathlib.Core.Logic.{_⊎_, inl, inr}
 use mathlib.Core.List.{List, [], _∷_, _++_, append-nil, map}
 use mathlib.Core.Option.{Option, some, none}
-use Prim.Native.Nat.{ℕ, _+_, _<_}
+use Prim.Native.Nat.{ℕ, _<_}
 use native.Mathlib.Omega.{arith}
 use lib.ListN.{length, length-append}
 use lib.Seq.{length-take-le}
@@ -21,8 +21,8 @@ use Rattle.matching.proofs.Exact.{step-lifted}
 use Rattle.matching.proofs.Course.{left-append}
 use Rattle.matching.proofs.Reduce.{replay-fits, replay-more}
 use Rattle.matching.proofs.Demand.{slip-graph}
-use Rattle.steps.specs.Trail.{stepWords, trail}
-use Rattle.reduction.proofs.Coursing.{trail-append}
+use Rattle.taking.specs.Trail.{stepWords, trail}
+use Rattle.taking.proofs.Trail.{trail-append}
 use Rattle.partners.specs.Back.{Mates, UndoThere, Undone, BackThere, Lifted}
 use Rattle.partners.proofs.Closing.{step-some}
 

@@ -23,13 +23,13 @@ use Rattle.matching.proofs.Find.{is-fits}
 use Rattle.cellfile.specs.Answers.{Answer}
 use Rattle.rows.specs.Row.{rowWords}
 use Rattle.rows.proofs.Parts.{length-row}
-use Rattle.steps.specs.Trail.{stepWords}
-use Rattle.steps.specs.Finding.{told, toTell}
-use Rattle.steps.specs.declared.finding.Step as declared
-use Rattle.steps.specs.declared.finding.Step.the-variants as found
+use Rattle.taking.specs.Trail.{stepWords}
+use Rattle.finding.specs.Finding.{told, toTell}
+use Rattle.finding.specs.declared.Step as declared
+use Rattle.finding.specs.declared.Step.the-variants as found
 use Rattle.partners.specs.Back.{Mates, UndoThere, Undone}
-use Rattle.partners.specs.Unwinding.{TableOf, wordsAt, closingOf, Writable, pairsIn, moreIn}
-use Rattle.partners.specs.Unwinding.{StepBack, LeafBack, RingBack, ChainBack}
+use Rattle.partners.specs.Unwinding.{TableOf, wordsAt, closingOf, Writable, pairsIn, moreIn, StepBack, LeafBack}
+use Rattle.partners.specs.Unwinding.{RingBack, ChainBack}
 use Rattle.partners.proofs.Marking.{words-same}
 
 -- ---- a closing word

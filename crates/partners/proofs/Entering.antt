@@ -9,11 +9,11 @@ use lib.ListN.{length, take, drop}
 use borrow.Author.Tests.{not-true, not-false}
 use Rattle.matching.specs.Pairs.{Points}
 use Rattle.matching.specs.Pairing.{isPairing}
-use Rattle.cellfile.specs.Files.{pairsOf}
-use Rattle.cellfile.specs.Loops.{pairs}
-use Rattle.cellfile.proofs.Weights.{pairing-room}
+use Rattle.cellfile.specs.Files.{pairsOf, pairKey}
+use Rattle.cellfile.specs.Words.{pairs}
+use Rattle.checks.proofs.Accepted.{pairing-room}
 use Rattle.partners.specs.Table.{FileThere, TrailKept, Entered}
-use Rattle.partners.specs.Entering.{wordKey, pairKey, absent, Filled}
+use Rattle.partners.specs.Entering.{wordKey, absent, Filled}
 use Rattle.partners.proofs.Missing.{allThere, missing-is}
 
 module _ {n : ℕ} {w : Points} {file : List ℕ} {k r : ℕ} {w1 w2 : List ℕ} (h : FileThere n w file k r w1 w2) where

@@ -21,10 +21,10 @@ use Rattle.matching.proofs.Sums.{ι-is, hit-none, hit-left, hit-right, hit-some
 use Rattle.matching.proofs.Partner.{mate-left, mate-turned}
 use Rattle.cellfile.specs.Files.{pairing, asPair}
 use Rattle.cellfile.specs.Reads.{PairRead}
-use Rattle.cellfile.specs.Loops.{pairs}
+use Rattle.cellfile.specs.Words.{pairs}
 use Rattle.cellfile.specs.declared.decode.PairEntry.{PairEntry}
 use Rattle.cellfile.proofs.Walk.{from, from-start, from-end, from-next}
-use Rattle.cellfile.proofs.Repeated.{cells-fit}
+use Rattle.weighing.proofs.Repeated.{cells-fit}
 use Rattle.partners.specs.Table.{TrailKept}
 use Rattle.partners.specs.Entering.{Empty, Filled}
 use Rattle.partners.proofs.Tabled.{mateAt}

@@ -12,8 +12,7 @@ use lib.ListN.{length, getD}
 use Rattle.matching.specs.Pairs.{Pair, sum, keep, same, like, held, without}
 use Rattle.matching.specs.Pairing.{Once}
 use Rattle.matching.proofs.Tests.{Test, pass, fail, ltT, holds}
-use Rattle.matching.proofs.Sums.{times-none, sum-apart, like-turned, keep-all, keep-and}
-use Rattle.matching.proofs.Sums.{without-once, without-none}
+use Rattle.matching.proofs.Sums.{times-none, sum-apart, like-turned, keep-all, keep-and, without-once, without-none}
 use Rattle.matching.proofs.Partner.{held-free}
 use Rattle.partners.specs.Back.{Mates}
 use Rattle.partners.specs.Unwinding.{parted, TableOf, chainStays, ChainFreed, RingFreed}

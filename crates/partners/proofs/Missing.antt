@@ -18,19 +18,19 @@ use Rattle.matching.specs.Listed.{Entry, Before, joined, shortList}
 use Rattle.matching.proofs.Alls.{Ascends, all-map}
 use Rattle.matching.proofs.Short.{short-entries, short-ascends, short-joined}
 use Rattle.cellfile.specs.Fields.{packed, readRecord}
-use Rattle.cellfile.specs.Files.{pairing, asPair, pairsOf}
-use Rattle.cellfile.specs.Refusals.{key, ascendingFrom}
+use Rattle.cellfile.specs.Files.{pairing, asPair, pairsOf, key, pairKey}
+use Rattle.checks.specs.Refusals.{ascendingFrom}
 use Rattle.cellfile.specs.Reads.{PairRead}
-use Rattle.cellfile.specs.Loops.{pairs, merged}
-use Rattle.cellfile.specs.declared.Weighed.{Weighed}
-use Rattle.cellfile.specs.declared.Weighed.the-variants as weighed
+use Rattle.cellfile.specs.Words.{pairs, shortWord}
+use Rattle.weighing.specs.Merging.{merged}
+use Rattle.weighing.specs.declared.Weighed.{Weighed}
+use Rattle.weighing.specs.declared.Weighed.the-variants as weighed
 use Rattle.cellfile.specs.declared.decode.PairEntry.{PairEntry}
-use Rattle.cellfile.proofs.Rows.{bad-pairing-none}
-use Rattle.cellfile.proofs.Merge.{merged-is}
+use Rattle.checks.proofs.Rows.{bad-pairing-none}
+use Rattle.weighing.proofs.Merge.{merged-is}
 use Rattle.cellfile.proofs.Walk.{from, from-start, from-end, from-next}
-use Rattle.reduction.specs.Pairs.{pairWord as shortWord}
 use Rattle.partners.specs.Table.{FileThere}
-use Rattle.partners.specs.Entering.{wordKey, pairKey, absent}
+use Rattle.partners.specs.Entering.{wordKey, absent}
 
 -- ---- the keys of a short list
 

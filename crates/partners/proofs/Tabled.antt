@@ -28,7 +28,7 @@ use Rattle.matching.proofs.Sums.{like-same, like-turned, like-once, like-hit}
 use Rattle.matching.proofs.Filed.{InOrder, SamePairs, filed-sum, filed-in-order, in-order-same}
 use Rattle.matching.proofs.Partner.{partner-none, partner-view, partner-of, held-sum, held-free}
 use Rattle.cellfile.specs.Fields.{packed}
-use Rattle.partners.specs.Words.{pairWord}
+use Rattle.cellfile.specs.Words.{pairWord}
 use Rattle.partners.specs.Table.{TableThere, Listed}
 
 -- ---- how many pairs, and which partners

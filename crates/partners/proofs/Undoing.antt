@@ -24,8 +24,8 @@ use Rattle.matching.proofs.Find.{is-fits}
 use Rattle.matching.proofs.Exact.{step-lifted}
 use Rattle.rows.specs.Row.{rowWords, RowOf, unmarked, Blank, marked, less, RowBest}
 use Rattle.rows.proofs.Parts.{length-row}
-use Rattle.partners.specs.Unwinding.{joined, TableOf, pairsOf, wordsAt, PutThere, ChainFreed, RingFreed}
-use Rattle.partners.specs.Unwinding.{StepBack, LeafBack, RingBack, ChainBack}
+use Rattle.partners.specs.Unwinding.{joined, TableOf, pairsOf, wordsAt, PutThere, ChainFreed, RingFreed, StepBack}
+use Rattle.partners.specs.Unwinding.{LeafBack, RingBack, ChainBack}
 use Rattle.partners.specs.Back.{Mates}
 use Rattle.partners.specs.Table.{TrailKept}
 use Rattle.partners.specs.declared.back.Ends.{Ends}

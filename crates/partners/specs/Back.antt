@@ -12,8 +12,7 @@ use Rattle.matching.specs.Graph.{Graph}
 use Rattle.matching.specs.Shapes.{IsStep}
 use Rattle.matching.specs.Steps.{Step, name, apply, undo}
 use Rattle.matching.specs.Slip.{replay, left, lift}
-use Rattle.steps.specs.Trail.{stepWords, trail}
-use Rattle.reduction.specs.Running.{Small}
+use Rattle.taking.specs.Trail.{stepWords, trail, Small}
 
 -- The table holds the partners of the pairing.
 abbrev pub Mates : List ℕ → List Pair → Type 0

@@ -9,16 +9,12 @@ use lib.ListN.{getD}
 use Rattle.matching.specs.Lists.{distinct}
 use Rattle.matching.specs.Pairs.{Pair}
 use Rattle.matching.specs.Pairing.{cells}
-use Rattle.cellfile.specs.Refusals.{key}
 use Rattle.partners.specs.Back.{Mates}
 use Rattle.partners.specs.Table.{TrailKept}
 
 -- The cells of a short list's word, and of a pair, as one number.
 abbrev pub wordKey : ℕ → ℕ
 wordKey v = v / 17592186044416
-
-abbrev pub pairKey : Pair → ℕ
-pairKey p = key (p .0) (p .1)
 
 -- Whether a number of the second list is not in the first, both ascending. Law: proofs/Missing, `missing-is`.
 abbrev pub absent : List ℕ → List ℕ → Bool

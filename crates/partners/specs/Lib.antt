@@ -1,5 +1,4 @@
 -- The table of partners and the way back on it.
-pub mod Words
 pub mod Back
 pub mod Table
 pub mod Entering

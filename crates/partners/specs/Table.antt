@@ -10,10 +10,9 @@ use Rattle.matching.specs.Pairing.{Once}
 use Rattle.matching.specs.Listed.{shortList, filed}
 use Rattle.matching.specs.Graph.{Graph}
 use Rattle.cellfile.specs.Files.{countOf, pairsOf}
-use Rattle.cellfile.specs.Refusals.{badPairing, noPairing}
-use Rattle.reduction.specs.Pairs.{pairWord as shortWord}
+use Rattle.checks.specs.Refusals.{badPairing, noPairing}
+use Rattle.cellfile.specs.Words.{shortWord, pairWord}
 use Rattle.partners.specs.Back.{Mates}
-use Rattle.partners.specs.Words.{pairWord}
 
 -- A pairing file that has passed refusal 9, and the short list of a graph of n cells as words.
 pub record FileThere (n : ℕ) (w : Points) (file : List ℕ) (k r : ℕ) (w1 w2 : List ℕ) : Type 0 where
@@ -51,3 +50,12 @@ pub record Listed (m : List Pair) (w1′ : List ℕ) (r : ℕ) : Type 0 where
   pub most : r ≤ 512
   pub count : r ≡ length (filed m)
   pub pairs : take r w1′ ≡ map pairWord (filed m)
+
+-- The first r words of the first buffer are the pairs of m. Inner contracts cite this.
+pub record WordsThere (m : List Pair) (r : ℕ) (w1 w2 : List ℕ) : Type 0 where
+  pub room1 : 8192 ≤ length w1
+  pub room2 : 8192 ≤ length w2
+  pub most : r ≤ 512
+  pub words : take r w1 ≡ map pairWord m
+  pub within : Each (λ a b. (a < 1024) × (b < 1024) × (a ≢ b)) m
+  pub once : Once m

@@ -11,7 +11,7 @@ use Rattle.matching.specs.Graph.{Graph}
 use Rattle.matching.specs.Shapes.{IsStep}
 use Rattle.matching.specs.Steps.{Step, leaf, ring, chain, name, apply, outweighs}
 use Rattle.rows.specs.Row.{rowWords, marked, less}
-use Rattle.steps.specs.Trail.{closing}
+use Rattle.taking.specs.Trail.{closing}
 use Rattle.partners.specs.Back.{Mates}
 use Rattle.partners.specs.Table.{TrailKept}
 use Rattle.partners.specs.declared.back.Ends.{Ends}

@@ -1,7 +1,7 @@
 // The way back through the steps on the trail, on the table of partners: see specs/Back, and specs/Unwinding for its
 // parts.
-use cellfile::work::clear;
-use steps::finding::Step;
+use buffers::clear;
+use finding::Step;
 ghost use mathlib.Core.Path.{_≡_};
 ghost use mathlib.Core.Bool.{cond};
 ghost use mathlib.Core.List.{List, _++_};
@@ -13,11 +13,11 @@ ghost use Rattle.matching.specs.Pairs.{Pair, Points, held};
 ghost use Rattle.matching.specs.Pairing.{Once};
 ghost use Rattle.matching.specs.Steps.{Step as DefinedStep, leaf, ring, chain, undo};
 ghost use Rattle.rows.specs.Row.{marked};
-ghost use Rattle.steps.specs.Finding.{told, toTell};
+ghost use Rattle.finding.specs.Finding.{told, toTell};
 ghost use Rattle.partners.specs.Back.{Mates, UndoThere, Undone, BackThere, Lifted};
 ghost use Rattle.partners.specs.Unwinding.{joined, parted, TableOf, cellOf, pairsOf, wordsAt, PutThere};
-ghost use Rattle.partners.specs.Unwinding.{ChainFreed, RingFreed, closingOf, Writable, pairsIn, moreIn};
-ghost use Rattle.partners.specs.Unwinding.{LeafBack, RingBack, ChainBack};
+ghost use Rattle.partners.specs.Unwinding.{ChainFreed, RingFreed, closingOf, Writable, pairsIn, moreIn, LeafBack};
+ghost use Rattle.partners.specs.Unwinding.{RingBack, ChainBack};
 
 const MATES: usize = 4096;
 

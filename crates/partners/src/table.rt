@@ -5,11 +5,11 @@ ghost use mathlib.Core.List.{List, map};
 ghost use Prim.Native.Nat.{_+_, _*_, _≤_, _<_};
 ghost use lib.ListN.{length, take, drop};
 ghost use Rattle.matching.specs.Pairs.{Pair, Points};
-ghost use Rattle.cellfile.specs.Loops.{pairs};
+ghost use Rattle.cellfile.specs.Words.{pairs};
 ghost use Rattle.partners.specs.Back.{Mates};
-ghost use Rattle.partners.specs.Table.{FileThere, TrailKept, Entered, TableThere, Listed};
-ghost use Rattle.partners.specs.Entering.{wordKey, pairKey, absent, Empty, Filled};
-ghost use Rattle.partners.specs.Words.{WordsThere};
+ghost use Rattle.partners.specs.Table.{FileThere, TrailKept, Entered, TableThere, Listed, WordsThere};
+ghost use Rattle.partners.specs.Entering.{wordKey, absent, Empty, Filled};
+ghost use Rattle.cellfile.specs.Files.{pairKey};
 
 // Where the table stands in the second buffer, and its words.
 const TABLE: usize = 4096;

@@ -15,23 +15,22 @@ use Rattle.matching.proofs.Alls.{all-map}
 use Rattle.matching.proofs.Short.{short-entries}
 use Rattle.matching.proofs.More.{short-more}
 use Rattle.cellfile.specs.Fields.{fields}
-use Rattle.cellfile.specs.Files.{slip as slipLayout, shortList as shortLayout, writeFile, onto}
-use Rattle.cellfile.specs.Loops.{fileOf}
+use Rattle.cellfile.specs.Files.{slip as slipLayout, shortList as shortLayout, writeFile, onto, asFields, numberOf}
+use Rattle.cellfile.specs.Files.{nameFields}
+use Rattle.cellfile.specs.Words.{fileOf, shortWord, nameWord}
 use Rattle.cellfile.proofs.Fields.{fields-packed}
 use Rattle.cellfile.proofs.RoundTrip.{length-file}
 use Rattle.cellfile.proofs.Walk.{part}
 use Rattle.slots.specs.Slots.{graphOf}
-use Rattle.cellfile.specs.Files.{asFields}
-use Rattle.reduction.specs.Pairs.{pairWord}
-use Rattle.reduction.specs.Calls.{numberOf, nameFields}
-use Rattle.reduction.specs.Running.{nameWord}
-use Rattle.reduction.specs.Writing.{LeftThere, leftFile, takenFile, Does}
-use Rattle.reduction.proofs.Listing.{short-file}
-use Rattle.reduction.proofs.Layers.{no-room, rooms}
+use Rattle.running.specs.Pairs.{PairsLeft}
+use Rattle.reduction.specs.Writing.{leftFile, takenFile}
+use Rattle.checks.specs.Answering.{Does}
+use Rattle.running.proofs.Listing.{short-file}
+use Rattle.checks.proofs.Answering.{no-room, rooms}
 
 -- ---- the short list
 
-module _ {n e : ℕ} {w1 : List ℕ} (points : ℕ) (h : LeftThere n e w1) where
+module _ {n e : ℕ} {w1 : List ℕ} (points : ℕ) (h : PairsLeft n e w1) where
   same : shortList 1024 (graphOf e w1) ≡ shortList n (graphOf e w1)
   same = short-more (h .graph) 1024 (h .cells)
 
@@ -47,10 +46,10 @@ module _ {n e : ℕ} {w1 : List ℕ} (points : ℕ) (h : LeftThere n e w1) where
         length-file shortLayout (record { cells = n; extra = points ∷ []; entries = es }),
       )
 
-  left-file : {ws : List ℕ} → ws ≡ map pairWord (shortList 1024 (graphOf e w1))
+  left-file : {ws : List ℕ} → ws ≡ map shortWord (shortList 1024 (graphOf e w1))
       → writeFile shortLayout (fileOf shortLayout n (points ∷ []) ws) ≡ leftFile n points (graphOf e w1)
   left-file q =
-      ap (λ vs. writeFile shortLayout (fileOf shortLayout n (points ∷ []) vs)) (q ∙ ap (map pairWord) same)
+      ap (λ vs. writeFile shortLayout (fileOf shortLayout n (points ∷ []) vs)) (q ∙ ap (map shortWord) same)
       ∙ ap (writeFile shortLayout) (short-file n points (shortList n (graphOf e w1)) fits)
     where
       fits : All (λ (x : Entry). (x .0 < 1024) × (x .1 < 1024) × (x .2 < 17592186044416)) (shortList n (graphOf e w1))
@@ -68,7 +67,7 @@ module _ {n e : ℕ} {w1 : List ℕ} (points : ℕ) (h : LeftThere n e w1) where
     pub left-refused : length out < 12 + 8 * r → Does [] ((file, out, out) ∷ []) (12, [])
     left-refused l = no-room [] (file, out, out) [] (omega (arith, left-length q)) (refl, tt)
 
-    pub left-written : {ws out′ : List ℕ} → ws ≡ map pairWord (shortList 1024 (graphOf e w1))
+    pub left-written : {ws out′ : List ℕ} → ws ≡ map shortWord (shortList 1024 (graphOf e w1))
         → 12 + 8 * r ≤ length out → out′ ≡ onto (writeFile shortLayout (fileOf shortLayout n (points ∷ []) ws)) out
         → Does [] ((file, out, out′) ∷ []) (0, (12 + 8 * r) ∷ [])
     left-written {out′ = out′} p l w =
@@ -107,7 +106,7 @@ slip-file n ss h = ap (λ rs. record { cells = n; extra = []; entries = rs }) (a
 
 -- ---- both files
 
-module _ {n e steps : ℕ} {w1 : List ℕ} (w2 : List ℕ) (points : ℕ) (h : LeftThere n e w1) (few : steps ≤ 1024)
+module _ {n e steps : ℕ} {w1 : List ℕ} (w2 : List ℕ) (points : ℕ) (h : PairsLeft n e w1) (few : steps ≤ 1024)
     (words : 8192 ≤ length w2) (slip short : List ℕ) {r : ℕ} (q : r ≡ length (shortList 1024 (graphOf e w1))) where
   abbrev taken : List ℕ
   taken = takenFile n steps w2
@@ -125,7 +124,7 @@ module _ {n e steps : ℕ} {w1 : List ℕ} (w2 : List ℕ) (points : ℕ) (h : L
       no-room ((taken, slip, slip) ∷ []) (left, short, short) [] (omega (arith, left-length points h q))
       (refl, (refl, tt))
 
-  pub both-written : {ws slip′ short′ : List ℕ} → ws ≡ map pairWord (shortList 1024 (graphOf e w1))
+  pub both-written : {ws slip′ short′ : List ℕ} → ws ≡ map shortWord (shortList 1024 (graphOf e w1))
       → 4 + 2 * steps ≤ length slip → 12 + 8 * r ≤ length short
       → slip′ ≡ onto (writeFile slipLayout
       (fileOf slipLayout n [] (take steps (take (length w2 - 6144) (drop 6144 w2))))) slip

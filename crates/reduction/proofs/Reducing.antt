@@ -9,18 +9,21 @@ use lib.ListN.{length}
 use Rattle.matching.specs.Steps.{Step, name}
 use Rattle.matching.specs.Slip.{replay}
 use Rattle.matching.proofs.Reduce.{reduce-replay}
-use Rattle.cellfile.specs.Files.{storeList, slip as slipLayout, cellsOf, writeFile}
-use Rattle.cellfile.specs.Refusals.{first, listRows}
+use Rattle.cellfile.specs.Files.{storeList, slip as slipLayout, cellsOf, writeFile, nameFields}
+use Rattle.checks.specs.Refusals.{first, listRows}
 use Rattle.cellfile.specs.Answers.{Answer}
-use Rattle.cellfile.specs.Loops.{fileOf}
+use Rattle.cellfile.specs.Words.{fileOf}
 use Rattle.slots.specs.Slots.{graphOf}
 use Rattle.slots.proofs.Holding.{holds-room}
-use Rattle.reduction.specs.Calls.{graphIn, nameFields, shortFile, slipFile, reduceSteps}
-use Rattle.reduction.specs.Running.{After}
-use Rattle.reduction.specs.Writing.{LeftThere, leftFile, takenFile, Does}
-use Rattle.reduction.specs.Starting.{listStart, StartDone}
-use Rattle.reduction.proofs.Layers.{passed}
-use Rattle.reduction.proofs.Courses.{list-graph, left-there, steps-few, steps-below}
+use Rattle.starting.specs.Steps.{graphIn, reduceSteps}
+use Rattle.reduction.specs.Calls.{shortFile, slipFile}
+use Rattle.running.specs.Running.{After}
+use Rattle.running.specs.Pairs.{PairsLeft}
+use Rattle.reduction.specs.Writing.{leftFile, takenFile}
+use Rattle.checks.specs.Answering.{Does}
+use Rattle.starting.specs.Starting.{listStart, StartDone}
+use Rattle.checks.proofs.Answering.{passed}
+use Rattle.starting.proofs.Courses.{list-graph, left-there, steps-few, steps-below}
 use Rattle.reduction.proofs.Ends.{slip-file}
 use Rattle.reduction.proofs.Replaying.{left-file}
 
@@ -45,7 +48,7 @@ module _ (list : List ℕ) {n slots trail points steps : ℕ} {w1′ w2′ : Lis
   allowed : replay (cellsOf list) (graphIn list) (map name ss) ≡ some ss
   allowed = reduce-allowed list (d .accepted)
 
-  pub reduce-left : LeftThere n slots w1′ × (steps ≤ 1024) × (8192 ≤ length w2′)
+  pub reduce-left : PairsLeft n slots w1′ × (steps ≤ 1024) × (8192 ≤ length w2′)
   reduce-left = (
     left-there list (d .accepted) (map name ss) ss allowed (d .cells) reduce-after,
     omega (arith, reduce-after .count, steps-few list (d .accepted) (map name ss) ss allowed),

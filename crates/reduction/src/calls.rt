@@ -1,24 +1,27 @@
 // Inner functions of replay and reduce: see specs/Writing.
 use crate::Reduced;
 use crate::Replayed;
-use crate::lists;
-use crate::starting;
-use crate::starting::Started;
 use cellfile::write;
+use running::lists;
+use starting;
+use starting::Started;
 ghost use mathlib.Core.List.{_∷_, []};
 ghost use Prim.Native.Nat.{_≤_};
 ghost use lib.ListN.{length};
-ghost use Rattle.cellfile.specs.Files.{lent};
+ghost use Rattle.buffers.specs.Buffers.{lent};
 ghost use Rattle.slots.specs.Slots.{graphOf};
-ghost use Rattle.reduction.specs.Calls.{replayed, reduced, replayShort, slipFile, shortFile, reduceSteps};
-ghost use Rattle.reduction.specs.Writing.{LeftThere, leftFile, takenFile, Does};
-ghost use Rattle.reduction.specs.Starting.{listStart, slipStart};
+ghost use Rattle.reduction.specs.Calls.{replayed, reduced, replayShort, slipFile, shortFile};
+ghost use Rattle.starting.specs.Steps.{reduceSteps};
+ghost use Rattle.running.specs.Pairs.{PairsLeft};
+ghost use Rattle.reduction.specs.Writing.{leftFile, takenFile};
+ghost use Rattle.checks.specs.Answering.{Does};
+ghost use Rattle.starting.specs.Starting.{listStart, slipStart};
 
 const STEP_WORDS: usize = 6144;
 
 // Refusal 12 and the short list of the graph in e slots.
 fn write_left(n: usize, carried: u64, w1: &mut [u64], e: usize, short: &mut [u8]) -> Replayed
-    requires { ⌜ LeftThere n e (now w1) ⌝ }
+    requires { ⌜ PairsLeft n e (now w1) ⌝ }
     ensures { λ r. ⌜ Does []
         ((leftFile n carried (graphOf e (now (w1 .entry))), now (short .entry), now (short .exit)) ∷ [])
         (replayed r) ⌝ }
@@ -43,7 +46,7 @@ fn write_both(
     slip: &mut [u8],
     short: &mut [u8],
 ) -> Reduced
-    requires { ⌜ LeftThere n e (now w1) × (steps ≤ 1024) × (8192 ≤ length (now w2)) ⌝ }
+    requires { ⌜ PairsLeft n e (now w1) × (steps ≤ 1024) × (8192 ≤ length (now w2)) ⌝ }
     ensures { λ r. ⌜ Does []
         ((takenFile n steps (now (w2 .entry)), now (slip .entry), now (slip .exit))
         ∷ (leftFile n carried (graphOf e (now (w1 .entry))), now (short .entry), now (short .exit)) ∷ [])

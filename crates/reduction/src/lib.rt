@@ -1,15 +1,13 @@
-// Replaying a slip on a list, and reducing a list.
+// Replaying a slip on a list, and reducing a list: the calls replay and reduce.
 mod calls;
-pub mod lists;
-pub mod running;
-pub mod starting;
 
-use cellfile::work;
+use buffers;
 ghost use mathlib.Core.Path.{_≡_};
 ghost use lib.ListN.{length};
-ghost use Rattle.cellfile.specs.Files.{lent, Cleared};
-ghost use Rattle.reduction.specs.Calls.{replayed, reduced, written, replaying, reducing, replayShort};
-ghost use Rattle.reduction.specs.Calls.{slipFile, shortFile, reduceSteps};
+ghost use Rattle.buffers.specs.Buffers.{lent, Cleared};
+ghost use Rattle.reduction.specs.Calls.{replayed, reduced, replaying, reducing, replayShort, slipFile, shortFile};
+ghost use Rattle.cellfile.specs.Answers.{written};
+ghost use Rattle.starting.specs.Steps.{reduceSteps};
 
 // The answer of replay: a refusal's number, or the length of the short list.
 pub enum Replayed {
@@ -39,8 +37,8 @@ pub fn replay(
         × Cleared (now («work_b» .entry)) (now («work_b» .exit)) ⌝ }
 {
     let r = calls::replay_in(list, slip, work_a, work_b, short);
-    work::clear(work_a);
-    work::clear(work_b);
+    buffers::clear(work_a);
+    buffers::clear(work_b);
     r
 }
 
@@ -63,7 +61,7 @@ pub fn reduce(
         × Cleared (now («work_b» .entry)) (now («work_b» .exit)) ⌝ }
 {
     let r = calls::reduce_in(list, work_a, work_b, slip, short);
-    work::clear(work_a);
-    work::clear(work_b);
+    buffers::clear(work_a);
+    buffers::clear(work_b);
     r
 }

@@ -1,14 +1,13 @@
 -- The fields that the program prints, from what reduce and pair wrote of an accepted list. In order: the numbers of steps,
 -- of carried points and of entries of the short list; the pairs of the pairing, in order and each an entry of the list,
 -- so that the merge finds them with their points (`pairs-found`). Assumes nothing.
-use mathlib.Core.Path.{_≡_, refl, sym, ap, ap₂, subst, _∙_}
+use mathlib.Core.Path.{_≡_, sym, ap, ap₂, subst, _∙_}
 use mathlib.Core.Bool.{true}
 use mathlib.Core.List.{List, [], _∷_, _++_, map}
-use Prim.Native.Nat.{ℕ, suc, _+_, _*_, _-_, _/_, _%_, _^_, _≤_, _<_}
+use Prim.Native.Nat.{ℕ, _+_, _*_, _-_, _/_, _%_, _^_, _≤_, _<_}
 use native.Mathlib.Omega.{arith}
 use lib.ListN.{length, drop, length-map}
 use lib.Seq.{drop-append-seam}
-use borrow.Author.Tests.{le-leb}
 use Rattle.matching.specs.Pairs.{Pair, Each}
 use Rattle.matching.specs.Pairing.{Pairing}
 use Rattle.matching.specs.Listed.{Entry, joined, shortList, filed}
@@ -21,24 +20,24 @@ use Rattle.matching.proofs.Filed.{InOrder}
 use Rattle.cellfile.specs.Bytes.{number}
 use Rattle.cellfile.specs.Fields.{packed, writeRecord, writeRecords, readRecords}
 use Rattle.cellfile.specs.Files.{storeList, pairing as pairingLayout, slip as slipLayout, shortList as shortLayout}
-use Rattle.cellfile.specs.Files.{header, cellsOf, countOf, entriesOf, pairsOf, asPair}
-use Rattle.cellfile.specs.Refusals.{first, listRows, ascendingFrom}
-use Rattle.cellfile.specs.Loops.{entries, pairs}
+use Rattle.cellfile.specs.Files.{header, cellsOf, countOf, entriesOf, pairsOf, asPair, nameFields, asFields, pairFields}
+use Rattle.checks.specs.Refusals.{first, listRows, ascendingFrom}
+use Rattle.cellfile.specs.Words.{entries, pairs}
 use Rattle.cellfile.proofs.Bytes.{number-bytes}
 use Rattle.cellfile.proofs.Fields.{length-write-record, length-read-records}
-use Rattle.cellfile.proofs.Merge.{OrderedPairs}
-use Rattle.cellfile.proofs.RoundTrip.{length-file, accepted-entries}
-use Rattle.cellfile.proofs.Rows.{list-none, too-large-none, wrong-length-none, bad-pairing-none}
-use Rattle.reduction.specs.Calls.{graphIn, slipFile, shortFile, nameFields, reduceSteps}
-use Rattle.cellfile.specs.Files.{asFields}
+use Rattle.checks.proofs.Ascending.{OrderedPairs}
+use Rattle.cellfile.proofs.RoundTrip.{length-file}
+use Rattle.checks.proofs.Accepted.{accepted-entries, accepted-list}
+use Rattle.checks.proofs.Rows.{list-none, too-large-none, wrong-length-none, bad-pairing-none}
+use Rattle.starting.specs.Steps.{graphIn, reduceSteps}
+use Rattle.reduction.specs.Calls.{slipFile, shortFile}
 use Rattle.reduction.proofs.Reducing.{reduce-allowed}
-use Rattle.reduction.proofs.Loading.{list-accepted}
-use Rattle.reduction.proofs.Courses.{list-few, left-small, steps-few}
+use Rattle.starting.proofs.Courses.{list-few, left-small, steps-few}
 use Rattle.matching.proofs.Demand.{short-fewer}
-use Rattle.cellfile.specs.Files.{pairFields}
-use Rattle.lifting.specs.Calls.{graphAfter, solution, pairingFile}
-use Rattle.lifting.proofs.Filing.{file-in-order, file-half, file-pairing, file-formed, file-longest}
-use Rattle.lifting.proofs.Filing.{all-entries, pairing-pairing, pairing-read}
+use Rattle.lifting.specs.Calls.{graphAfter, pairingFile}
+use Rattle.matching.specs.Solve.{solution}
+use Rattle.lifting.proofs.Filing.{file-in-order, file-half, file-pairing, file-formed, file-longest, all-entries}
+use Rattle.lifting.proofs.Filing.{pairing-pairing, pairing-read}
 use Rattle.report.specs.Printed.{withPoints}
 use Rattle.report.specs.Writing.{found}
 use Rattle.report.proofs.Found.{found-is}
@@ -63,7 +62,7 @@ module _ (list : List ℕ) (h : first (listRows storeList list) ≡ 0) where
   short = shortList n (graphAfter list ss)
 
   few : n ≤ 1024
-  few = list-accepted list h .0
+  few = accepted-list list h .0
 
   -- ---- the list
 
@@ -100,7 +99,7 @@ module _ (list : List ℕ) (h : first (listRows storeList list) ≡ 0) where
       omega (
         arith,
         short-length,
-        short-fewer n es (list-accepted list h .1) (map name ss) ss (reduce-allowed list h),
+        short-fewer n es (accepted-list list h .1) (map name ss) ss (reduce-allowed list h),
         list-few list h,
       )
 

@@ -12,9 +12,10 @@ use Rattle.matching.specs.Pairs.{Pair}
 use Rattle.matching.specs.Listed.{Entry, joined, listed, points, total}
 use Rattle.matching.proofs.Tests.{Test, pass, fail, eqT, ltT, fails, passes}
 use Rattle.matching.proofs.Listed.{joined-apart, listed-apart, listed-same}
-use Rattle.cellfile.specs.Refusals.{ascendingFrom}
-use Rattle.cellfile.proofs.Merge.{Ordered, OrderedEntries, OrderedPairs, entryKey, pairKey, keyT, ascending-cons}
-use Rattle.cellfile.proofs.Merge.{entries-above, pairs-above, not-joined}
+use Rattle.checks.specs.Refusals.{ascendingFrom}
+use Rattle.checks.proofs.Ascending.{Ordered, OrderedEntries, OrderedPairs, keyT, ascending-cons, entries-above}
+use Rattle.checks.proofs.Ascending.{pairs-above, not-joined}
+use Rattle.cellfile.specs.Files.{entryKey, pairKey}
 use Rattle.report.specs.Printed.{withPoints}
 use Rattle.report.specs.Writing.{found}
 

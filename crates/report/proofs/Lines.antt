@@ -12,10 +12,9 @@ use borrow.Author.Tests.{eq-eqb, ne-eqb}
 use Rattle.matching.specs.Pairs.{Pair}
 use Rattle.matching.specs.Listed.{Entry, total}
 use Rattle.cellfile.specs.Fields.{readRecord}
-use Rattle.cellfile.specs.Files.{storeList, pairing as pairingLayout, asEntry, asPair}
-use Rattle.cellfile.specs.Refusals.{key}
+use Rattle.cellfile.specs.Files.{storeList, pairing as pairingLayout, asEntry, asPair, key}
 use Rattle.cellfile.specs.Reads.{EntryRead, PairRead}
-use Rattle.cellfile.specs.Loops.{entries, pairs}
+use Rattle.cellfile.specs.Words.{entries, pairs}
 use Rattle.cellfile.specs.declared.decode.Entry as decoded
 use Rattle.cellfile.specs.declared.decode.PairEntry.{PairEntry}
 use Rattle.cellfile.proofs.Walk.{from, from-start, from-end, from-next}

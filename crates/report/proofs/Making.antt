@@ -10,8 +10,9 @@ use Rattle.matching.specs.Listed.{Entry, listed, total, shortList}
 use Rattle.matching.specs.Slip.{carried}
 use Rattle.cellfile.specs.Bytes.{number}
 use Rattle.cellfile.specs.Files.{storeList, cellsOf, countOf, entriesOf, pairsOf}
-use Rattle.cellfile.specs.Loops.{entries, pairs}
-use Rattle.reduction.specs.Calls.{graphIn, shortFile, reduceSteps}
+use Rattle.cellfile.specs.Words.{entries, pairs}
+use Rattle.starting.specs.Steps.{graphIn, reduceSteps}
+use Rattle.reduction.specs.Calls.{shortFile}
 use Rattle.lifting.specs.Calls.{graphAfter, pairingFile}
 use Rattle.report.specs.Printed.{ascii, numbers, line, pairLines, report, withPoints, made}
 use Rattle.report.specs.Writing.{Appended, Made, found, LinesOf, ReducedThere}
@@ -19,8 +20,8 @@ use Rattle.report.specs.declared.pairs.Lines.{Lines}
 use Rattle.report.proofs.Appending.{append-both, append-made, append-is}
 use Rattle.report.proofs.Decimal.{numbers-few, pair-line-few}
 use Rattle.report.proofs.Found.{total-points}
-use Rattle.report.proofs.Fields.{files-least, steps-printed, entries-printed, carried-printed}
-use Rattle.report.proofs.Fields.{pairs-few, pairs-length, pairs-found}
+use Rattle.report.proofs.Fields.{files-least, steps-printed, entries-printed, carried-printed, pairs-few}
+use Rattle.report.proofs.Fields.{pairs-length, pairs-found}
 
 -- ---- lengths
 

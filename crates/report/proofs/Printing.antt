@@ -4,7 +4,7 @@
 use mathlib.Core.Path.{_≡_, refl, sym, ap, _∙_}
 use mathlib.Core.Bool.{Bool, false, cond}
 use mathlib.Core.List.{List, [], _∷_, _++_}
-use Prim.Native.Nat.{ℕ, zero, suc, _+_, _≤_, _<_}
+use Prim.Native.Nat.{ℕ, zero, suc, _≤_, _<_}
 use native.Mathlib.Omega.{arith}
 use lib.Dec.{eqb}
 use lib.ListN.{length, getD, take}
@@ -13,11 +13,12 @@ use borrow.Author.Tests.{le-ltb, ne-eqb}
 use Rattle.matching.specs.Graph.{cellsLeft}
 use Rattle.matching.specs.Steps.{Step}
 use Rattle.cellfile.specs.Files.{storeList, cellsOf, onto}
-use Rattle.cellfile.specs.Refusals.{Row, first, fewWords, listRows, crowded, shortOutput}
+use Rattle.checks.specs.Refusals.{Row, first, fewWords, listRows, crowded, shortOutput}
 use Rattle.cellfile.specs.Answers.{answer}
-use Rattle.cellfile.proofs.Layers.{answer-refused, answer-accepted, first-refused, first-passed}
-use Rattle.cellfile.proofs.Rows.{list-none}
-use Rattle.reduction.specs.Calls.{slipFile, shortFile, reduceSteps, reducing}
+use Rattle.checks.proofs.Layers.{answer-refused, answer-accepted, first-refused, first-passed}
+use Rattle.checks.proofs.Rows.{list-none}
+use Rattle.reduction.specs.Calls.{slipFile, shortFile, reducing}
+use Rattle.starting.specs.Steps.{reduceSteps}
 use Rattle.lifting.specs.Calls.{graphAfter, pairingFile, pairing}
 use Rattle.report.specs.Printed.{line, made, refusal, printed}
 use Rattle.report.proofs.Fields.{slip-most, short-most, pairing-most}

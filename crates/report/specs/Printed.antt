@@ -11,8 +11,8 @@ use Rattle.matching.specs.Listed.{Entry, listed, points, shortList}
 use Rattle.matching.specs.Graph.{cellsLeft}
 use Rattle.matching.specs.Slip.{carried}
 use Rattle.cellfile.specs.Files.{storeList, cellsOf, entriesOf, pairsOf}
-use Rattle.cellfile.specs.Refusals.{first, listRows, crowded}
-use Rattle.reduction.specs.Calls.{graphIn, reduceSteps}
+use Rattle.checks.specs.Refusals.{first, listRows, crowded}
+use Rattle.starting.specs.Steps.{graphIn, reduceSteps}
 use Rattle.lifting.specs.Calls.{graphAfter, pairingFile}
 
 -- The bytes of a text.

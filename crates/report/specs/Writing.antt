@@ -7,9 +7,10 @@ use lib.Dec.{eqb}
 use lib.ListN.{length, take}
 use Rattle.matching.specs.Pairs.{Pair}
 use Rattle.matching.specs.Listed.{Entry, total}
-use Rattle.cellfile.specs.Files.{storeList}
-use Rattle.cellfile.specs.Refusals.{first, listRows, key}
-use Rattle.reduction.specs.Calls.{reduceSteps, slipFile, shortFile}
+use Rattle.cellfile.specs.Files.{storeList, key}
+use Rattle.checks.specs.Refusals.{first, listRows}
+use Rattle.starting.specs.Steps.{reduceSteps}
+use Rattle.reduction.specs.Calls.{slipFile, shortFile}
 use Rattle.report.specs.Printed.{pairLines}
 use Rattle.report.specs.declared.pairs.Lines.{Lines}
 

@@ -3,7 +3,7 @@ use crate::text;
 use cellfile::decode;
 ghost use Prim.Native.Nat.{_+_, _*_, _≤_};
 ghost use lib.ListN.{length, drop};
-ghost use Rattle.cellfile.specs.Loops.{entries, pairs};
+ghost use Rattle.cellfile.specs.Words.{entries, pairs};
 ghost use Rattle.report.specs.Writing.{found, LinesOf};
 
 // Where the lines end, and the sum of the points.

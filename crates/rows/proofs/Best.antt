@@ -16,8 +16,8 @@ use Rattle.matching.proofs.Members.{mem-on, mem-head}
 use Rattle.matching.proofs.Best.{H-nil, best-nil, best-cons}
 use Rattle.matching.proofs.Path.{path-step}
 use Rattle.rows.specs.Row.{rowPoints, two, paying, standing, pathMarks, marked}
-use Rattle.rows.proofs.Points.{along, Apart, apart-next, fresh, second-barred, two-none, two-path}
-use Rattle.rows.proofs.Points.{twoFrom, map-from}
+use Rattle.rows.proofs.Points.{along, Apart, apart-next, fresh, second-barred, two-none, two-path, twoFrom}
+use Rattle.rows.proofs.Points.{map-from}
 
 paying-cons : (p : ℕ) (ps : List ℕ) → paying (p ∷ ps) ≡ ι (pays tie (two ps .0) (p + two ps .1)) ∷ paying ps
 unfolding paying

@@ -20,8 +20,8 @@ use Rattle.matching.proofs.Tests.{eqT, isT, orT, fails}
 use Rattle.matching.proofs.Members.{no-mem, mem-on, mem-head, mem-not, mem-cases, mem-apart, mem-past, distinct-cons}
 use Rattle.matching.proofs.Best.{H-nil, H-cons, best-nil, best-cons}
 use Rattle.matching.proofs.Path.{Alike, Recurs, H-ext, best-ext, length-walk, walk-each, ring-step}
-use Rattle.rows.specs.Row.{rowPoints, rowWords, RowOf, two, heavy, paying, standing}
-use Rattle.rows.specs.Row.{pathMarks, partMarks, unmarked, marked, less, RowBest}
+use Rattle.rows.specs.Row.{rowPoints, rowWords, RowOf, two, heavy, paying, standing, pathMarks, partMarks}
+use Rattle.rows.specs.Row.{unmarked, marked, less, RowBest}
 use Rattle.rows.proofs.Points.{Apart, words-along, two-none, two-path}
 use Rattle.rows.proofs.Best.{marked-path, length-marks, no-marks}
 

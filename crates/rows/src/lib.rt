@@ -9,8 +9,8 @@ ghost use lib.Dec.{eqb};
 ghost use lib.ListN.{length};
 ghost use Rattle.matching.specs.Pairs.{Points, ι};
 ghost use Rattle.matching.specs.Best.{pays, tie};
-ghost use Rattle.rows.specs.Row.{rowPoints, RowOf, heavy, paying, standing, ChainH, RingH};
-ghost use Rattle.rows.specs.Row.{pathMarks, partMarks, Blank, less, RowBest};
+ghost use Rattle.rows.specs.Row.{rowPoints, RowOf, heavy, paying, standing, ChainH, RingH, pathMarks, partMarks};
+ghost use Rattle.rows.specs.Row.{Blank, less, RowBest};
 
 // H of a chain, of it less u, less v, and less both.
 pub struct ChainPoints {

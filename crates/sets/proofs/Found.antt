@@ -10,7 +10,7 @@ use lib.Seq.{take-take, take-suc-set, append-snoc, length-take-le}
 use Rattle.sets.specs.Sets.{inSet, heaviest, pairOf, Known, Ready}
 use Rattle.sets.specs.Tries.{Lowest, together, partnered, Partner}
 use Rattle.sets.proofs.Places.{fewer-first, fewer-next, places-few}
-use Rattle.sets.proofs.Heavy.{heaviest-none, heaviest-with}
+use Rattle.sets.proofs.Heaviest.{heaviest-none, heaviest-with}
 use Rattle.sets.proofs.Known.{Kept, known-below, ready-less}
 
 -- ---- the lowest place

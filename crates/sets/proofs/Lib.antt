@@ -1,6 +1,6 @@
 -- The laws of the heaviest pairing of a set.
 pub mod Places
-pub mod Heavy
+pub mod Heaviest
 pub mod Tried
 pub mod Known
 pub mod Found

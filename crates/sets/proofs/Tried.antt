@@ -14,7 +14,7 @@ use Rattle.matching.specs.Solve.{less, tries, solve}
 use Rattle.sets.specs.Sets.{inSet, between, heaviest, points}
 use Rattle.sets.specs.Tries.{Lowest, together, partnered, Partner}
 use Rattle.sets.proofs.Places.{places-less, from, all-from, from-in, from-out, from-end}
-use Rattle.sets.proofs.Heavy.{heaviest-with}
+use Rattle.sets.proofs.Heaviest.{heaviest-with}
 
 -- ---- one more try
 

@@ -1,5 +1,5 @@
 -- The lowest place of a set, and the heaviest pairing of a place and a set above it, by the place's partner. Only inner
--- contracts cite this (law: `heaviest-with` of proofs/Heavy).
+-- contracts cite this (law: `heaviest-with` of proofs/Heaviest).
 use mathlib.Core.Path.{_≡_}
 use mathlib.Core.List.{List, [], _∷_}
 use Prim.Native.Nat.{ℕ, zero, suc, _-_, _/_, _%_, _^_, _≤_, _<_}

@@ -11,24 +11,11 @@ use lib.ListN.{length, getD, set}
 use Rattle.matching.specs.Pairs.{touches}
 use Rattle.matching.specs.Graph.{put}
 use Rattle.matching.proofs.Tests.{Test, pass, fail, eqT}
-use Rattle.slots.specs.Slots.{
-  total,
-  key,
-  keyAt,
-  Store,
-  store,
-  graph,
-  last,
-  Slots,
-  Holds,
-  graphOf,
-  Added,
-  Changed,
-}
+use Rattle.slots.specs.Slots.{total, key, keyAt, Store, store, graph, last, Slots, Holds, graphOf, Added, Changed}
 use Rattle.slots.proofs.Totals.{total-same, total-most}
 use Rattle.slots.proofs.Keys.{keyOf, key-low, key-high, key-off, key-most}
-use Rattle.slots.proofs.Stores.{stored-first, stored-last, elsewhere-both, as-long-both}
-use Rattle.slots.proofs.Stores.{aside-both, aside-added, aside-on}
+use Rattle.slots.proofs.Stores.{stored-first, stored-last, elsewhere-both, as-long-both, aside-both, aside-added}
+use Rattle.slots.proofs.Stores.{aside-on}
 use Rattle.slots.proofs.Graphs.{Alike, graph-same, graph-put}
 use Rattle.slots.proofs.Links.{last-same, last-is}
 

@@ -4,13 +4,13 @@ use mathlib.Core.Path.{_≡_, refl, sym, ap, _∙_}
 use mathlib.Core.Logic.{_⊎_, inl, inr, _≢_}
 use mathlib.Core.Bool.{Bool, true, false, not, cond}
 use mathlib.Core.List.{List}
-use Prim.Native.Nat.{ℕ, suc, _+_, _≤_, _<_}
+use Prim.Native.Nat.{ℕ, suc, _+_, _≤_, _<_, zero, _-_}
 use native.Mathlib.Omega.{arith}
 use lib.ListN.{getD}
 use Rattle.matching.specs.Pairs.{same, touches}
 use Rattle.matching.proofs.Tests.{Test, pass, fail, eqT, ltT, notT, holds, fails}
 use Rattle.matching.proofs.Pairs.{Same}
-use Rattle.slots.specs.Slots.{store, graph, last, Holds, lowOf, highOf, linkOf}
+use Rattle.slots.specs.Slots.{store, graph, last, Holds, lowOf, highOf, linkOf, Joins, graphOf}
 use Rattle.slots.specs.Found.{FindSlot}
 use Rattle.slots.proofs.Totals.{total-none}
 use Rattle.slots.proofs.Graphs.{gives, joinT, same-is}
@@ -103,3 +103,12 @@ module _ {e u v : ℕ} {w1 w2 : List ℕ} {i : ℕ} (h : Holds e w1 w2) (p : Sou
           at j a l (pass z) y = rw z (missed miss)
           at j a l (fail m) (pass t) = off-none j (here .past j (omega arith) t)
           at j a l (fail m) (fail t) = p .none j t l
+
+-- What is found joins the two; where nothing is, they have no points.
+pub found-joins : (e : ℕ) (w1 : List ℕ) (u v s : ℕ) → FindSlot e w1 u v s → s ≢ 0 → Joins e w1 (s - 1) u v
+found-joins e w1 u v zero f n = absurd (n refl)
+found-joins e w1 u v (suc i) f n = let q : suc i - 1 ≡ i = omega arith in rw q f
+
+pub unfound : (e : ℕ) (w1 : List ℕ) (u v s : ℕ) → FindSlot e w1 u v s → s ≡ 0 → 0 ≡ graphOf e w1 u v
+unfound e w1 u v zero f z = sym f
+unfound e w1 u v (suc i) f z = absurd (omega arith)

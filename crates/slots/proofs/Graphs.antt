@@ -13,18 +13,7 @@ use Rattle.matching.specs.Graph.{Graph, put}
 use Rattle.matching.proofs.Tests.{Test, pass, fail, eqT, holds, fails}
 use Rattle.matching.proofs.Pairs.{Same, Apart, sameT}
 use Rattle.matching.proofs.Sums.{same-turned, same-self}
-use Rattle.slots.specs.Slots.{
-  total,
-  Store,
-  store,
-  graph,
-  last,
-  Slots,
-  Holds,
-  graphOf,
-  Joins,
-  NoSlots,
-}
+use Rattle.slots.specs.Slots.{total, Store, store, graph, last, Slots, Holds, graphOf, Joins, NoSlots}
 use Rattle.slots.proofs.Totals.{total-same, total-none}
 
 -- What slot i gives the pair x, y, and what the test tells whether it joins the two.

@@ -12,21 +12,8 @@ use Rattle.matching.specs.Pairs.{touches}
 use Rattle.matching.proofs.Tests.{Test, pass, fail, eqT, ltT}
 use Rattle.matching.proofs.Pairs.{Same}
 use Rattle.matching.proofs.Sums.{or-turn}
-use Rattle.slots.specs.Slots.{
-  total,
-  Store,
-  store,
-  graph,
-  last,
-  Holds,
-  graphOf,
-  lowOf,
-  highOf,
-  linkOf,
-  Aside,
-  Changed,
-  lessAll,
-}
+use Rattle.slots.specs.Slots.{total, Store, store, graph, last, Holds, graphOf, lowOf, highOf, linkOf, Aside}
+use Rattle.slots.specs.Slots.{Changed, lessAll}
 use Rattle.slots.proofs.Stores.{stored, elsewhere, aside-on}
 use Rattle.slots.proofs.Graphs.{Join, joinT, graph-same-pair}
 use Rattle.slots.proofs.Links.{Last, last-is, link-is}

@@ -10,20 +10,8 @@ use native.Mathlib.Numerals.{add-one}
 use lib.ListN.{length, getD, set}
 use Rattle.matching.specs.Graph.{put}
 use Rattle.matching.proofs.Tests.{Test, pass, fail, eqT}
-use Rattle.slots.specs.Slots.{
-  total,
-  store,
-  graph,
-  Holds,
-  graphOf,
-  lowOf,
-  highOf,
-  Aside,
-  Changed,
-  Beyond,
-  NoSlots,
-  live,
-}
+use Rattle.slots.specs.Slots.{total, store, graph, Holds, graphOf, lowOf, highOf, Aside, Changed, Beyond, NoSlots}
+use Rattle.slots.specs.Slots.{live}
 use Rattle.slots.proofs.Stores.{stored-first, stored-last, elsewhere-both, aside-both, aside-on}
 use Rattle.slots.proofs.Graphs.{graph-gone, graph-put, holds-none}
 use Rattle.slots.proofs.Lives.{live-none, live-more, live-past}

@@ -1,7 +1,7 @@
 -- The slots of a cell, for callers that go over them: the last one (`last-slot`), the one before (`slot-before`), the
 -- partner in one (`slot-sum`, `slot-joins`); a slot joins two cells in either order (`joins-turned`); a pair with points
 -- has a slot (`joins-some`); what holds of the slots passed (`slots-on`). Assumes nothing.
-use mathlib.Core.Path.{_≡_, refl, sym, ap, _∙_}
+use mathlib.Core.Path.{_≡_, sym, _∙_}
 use mathlib.Core.Logic.{inl, inr, _≢_}
 use mathlib.Core.Bool.{Bool, true, false, cond}
 use mathlib.Core.List.{List, []}

@@ -11,21 +11,8 @@ use lib.ListN.{length, getD, set}
 use Rattle.matching.specs.Pairs.{same}
 use Rattle.matching.specs.Graph.{put}
 use Rattle.matching.proofs.Tests.{Test, pass, fail, eqT}
-use Rattle.slots.specs.Slots.{
-  key,
-  keyAt,
-  Store,
-  store,
-  graph,
-  last,
-  Slots,
-  Holds,
-  graphOf,
-  lowOf,
-  highOf,
-  Added,
-  Changed,
-}
+use Rattle.slots.specs.Slots.{key, keyAt, Store, store, graph, last, Slots, Holds, graphOf, lowOf, highOf, Added}
+use Rattle.slots.specs.Slots.{Changed}
 use Rattle.slots.proofs.Totals.{total-le, total-but, total-at}
 use Rattle.slots.proofs.Keys.{keyOf, key-dead, key-low, key-high, key-off, key-live}
 use Rattle.slots.proofs.Stores.{stored, elsewhere, as-long, aside-added}

@@ -6,8 +6,8 @@ ghost use Prim.Native.Nat.{_+_, _-_, _<_, _≤_};
 ghost use lib.ListN.{length, getD, set};
 ghost use Rattle.matching.specs.Graph.{put, partners};
 ghost use Rattle.matching.specs.Steps.{leafed};
-ghost use Rattle.slots.specs.Slots.{Holds, graphOf, lowOf, highOf, Joins, Changed};
-ghost use Rattle.slots.specs.Slots.{Aside, Beyond, lessAll, NoSlots, live};
+ghost use Rattle.slots.specs.Slots.{Holds, graphOf, lowOf, highOf, Joins, Changed, Aside, Beyond, lessAll};
+ghost use Rattle.slots.specs.Slots.{NoSlots, live};
 
 // Slot e gets the pair a, b.
 pub fn append(w1: &mut [u64], w2: &mut [u64], e: usize, a: usize, b: usize, w: u64)

@@ -1,25 +1,24 @@
--- Laws of the view. In order: how many entries are shown, by what the check of the list answers; what is served, by
--- the tests of the place; the record at a place of several; and `view-serves`: with the number that is shown, a view
--- serves the entry at the place, which the documents ask for. Assumes nothing.
+-- Laws of the view. In order: how many entries are shown, by what the check of the list answers; the record at a place
+-- of several; what is served, with the number that is shown, by the tests of the place. Assumes nothing.
 use Prim.Native.Nat.{ℕ, zero, suc, _+_, _*_, _<_, _≤_}
 use mathlib.Core.Path.{_≡_, refl, sym, ap, _∙_}
 use mathlib.Core.Bool.{Bool, true, false, cond, _&&_}
 use mathlib.Core.List.{List, [], _∷_}
 use native.Mathlib.Omega.{arith}
 use native.Mathlib.Nat.{mul-zero}
-use borrow.Author.Tests.{lt-ltb, le-ltb, le-leb, lt-leb, eq-eqb, ne-eqb, eqb-true, ltb-true}
-use lib.Dec.{eqb, ltb, leb}
+use borrow.Author.Tests.{lt-ltb, le-ltb, eq-eqb, ne-eqb, eqb-true}
+use lib.Dec.{eqb, ltb}
 use lib.ListN.{length, getD, drop}
 use lib.Seq.{drop-drop}
 use Rattle.cellfile.specs.Fields.{size, fields, readRecord, readRecords}
 use Rattle.cellfile.specs.Files.{storeList, cellsOf, countOf, readEntries}
-use Rattle.cellfile.specs.Refusals.{first, listRows}
+use Rattle.checks.specs.Refusals.{first, listRows}
 use Rattle.cellfile.specs.Answers.{Answer, answer}
 use Rattle.cellfile.specs.Reads.{EntryRead}
 use Rattle.cellfile.specs.declared.decode.Entry.{Entry}
-use Rattle.cellfile.proofs.Layers.{answer-refused}
-use Rattle.cellfile.proofs.Weights.{list-accepted, list-room}
-use Rattle.view.specs.Serving.{serving, shown, servedAt}
+use Rattle.checks.proofs.Layers.{answer-refused}
+use Rattle.checks.proofs.Accepted.{list-accepted, list-room}
+use Rattle.view.specs.Serving.{serving, shown}
 
 -- ---- how many entries are shown
 
@@ -37,23 +36,6 @@ module _ (list : List ℕ) where
   shown-accepted e =
       let h = list-accepted list e in
       rw (eq-eqb (first (listRows storeList list)) 0 (h .0)) (h .2)
-
--- ---- what is served
-
-module _ (list : List ℕ) (count place : ℕ) where
-  pub served-past : count ≤ place → (0, []) ≡ servedAt list count place
-  unfolding servedAt
-  served-past h = rw (le-ltb place count h)
-
-  pub served-short : place < count → length list < 9 + 5 * place → (0, []) ≡ servedAt list count place
-  unfolding servedAt
-  served-short h k = rw (lt-ltb place count h, lt-leb (9 + 5 * place) (length list) k)
-
-  pub served-here : {e : Entry} → place < count → 9 + 5 * place ≤ length list
-      → EntryRead (drop (4 + 5 * place) list) e → (1, e .a ∷ e .b ∷ e .points ∷ []) ≡ servedAt list count place
-  unfolding servedAt fields
-  served-here h k r =
-      rw (lt-ltb place count h, le-leb (9 + 5 * place) (length list) k, r .a, r .b, r .points)
 
 -- ---- the record at a place
 
@@ -73,28 +55,40 @@ entry-at list place h =
     sym (record-at (storeList .entry) (countOf list) place (drop 4 list) h
     ∙ ap (readRecord (storeList .entry)) (drop-drop (5 * place) 4 list))
 
--- ---- a view of the list
+-- ---- what is served of a view of the list
 
 -- an answer with the values where the test holds
 abbrev where-so : Bool → List ℕ → Answer
 where-so t values = cond t (1, values) (0, [])
 
-pub view-serves : (list : List ℕ) (place : ℕ) → servedAt list (shown list) place ≡ serving list place
-unfolding serving shown servedAt
-view-serves list place = go (eqb (first (listRows storeList list)) 0) refl
-  where
-    here : first (listRows storeList list) ≡ 0 → (t : Bool) → ltb place (countOf list) ≡ t
-        → where-so (t && leb (9 + 5 * place) (length list)) (readRecord (storeList .entry) (drop (4 + 5 * place) list))
-        ≡ where-so t (getD (readEntries storeList list) place [])
-    here a true h =
-        let l = ltb-true place (countOf list) h in
-        let room = list-room list a refl in
-        rw (le-leb (9 + 5 * place) (length list) (omega arith), entry-at list place l)
-    here a false h = refl
+module _ (list : List ℕ) (count place : ℕ) (shows : count ≡ shown list) where
+  pub served-past : count ≤ place → (0, []) ≡ serving list place
+  unfolding serving shown
+  served-past h = go (eqb (first (listRows storeList list)) 0) shows
+    where
+      go : (t : Bool) → count ≡ cond t (countOf list) 0
+          → (0, []) ≡ where-so (t && ltb place (countOf list)) (getD (readEntries storeList list) place [])
+      go true e = rw (le-ltb place (countOf list) (omega arith))
+      go false e = refl
 
-    go : (t : Bool) → eqb (first (listRows storeList list)) 0 ≡ t
-        → where-so (ltb place (cond t (countOf list) 0) && leb (9 + 5 * place) (length list))
-        (readRecord (storeList .entry) (drop (4 + 5 * place) list))
-        ≡ where-so (t && ltb place (countOf list)) (getD (readEntries storeList list) place [])
-    go true e = here (eqb-true (first (listRows storeList list)) 0 e) (ltb place (countOf list)) refl
-    go false e = rw (le-ltb place 0 (omega arith))
+  -- below the number shown there is an entry of an accepted list
+  here : place < count → (first (listRows storeList list) ≡ 0) × (place < countOf list)
+  unfolding shown
+  here h = go (eqb (first (listRows storeList list)) 0) refl shows
+    where
+      go : (t : Bool) → eqb (first (listRows storeList list)) 0 ≡ t → count ≡ cond t (countOf list) 0
+          → (first (listRows storeList list) ≡ 0) × (place < countOf list)
+      go true q e = (eqb-true (first (listRows storeList list)) 0 q, omega arith)
+      go false q e = absurd (omega arith)
+
+  -- which has its bytes
+  pub served-room : place < count → 9 + 5 * place ≤ length list
+  served-room h = let e = here h in omega (arith, e .1, list-room list {m = countOf list} (e .0) refl)
+
+  pub served-here : {e : Entry} → place < count → EntryRead (drop (4 + 5 * place) list) e
+      → (1, e .a ∷ e .b ∷ e .points ∷ []) ≡ serving list place
+  unfolding serving fields
+  served-here h r =
+      let e = here h in
+      rw (eq-eqb (first (listRows storeList list)) 0 (e .0), lt-ltb place (countOf list) (e .1), r .a, r .b, r .points)
+      (ap (λ (x : List ℕ). (1, x)) (entry-at list place (e .1)))

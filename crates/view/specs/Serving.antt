@@ -2,12 +2,11 @@
 -- answers none otherwise.'
 use mathlib.Core.Bool.{cond, _&&_}
 use mathlib.Core.List.{List, [], _∷_}
-use Prim.Native.Nat.{ℕ, _+_, _*_}
-use lib.Dec.{eqb, ltb, leb}
-use lib.ListN.{length, getD, drop}
-use Rattle.cellfile.specs.Fields.{readRecord}
+use Prim.Native.Nat.{ℕ}
+use lib.Dec.{eqb, ltb}
+use lib.ListN.{getD}
 use Rattle.cellfile.specs.Files.{storeList, countOf, readEntries}
-use Rattle.cellfile.specs.Refusals.{first, listRows}
+use Rattle.checks.specs.Refusals.{first, listRows}
 use Rattle.cellfile.specs.Answers.{Answer}
 use Rattle.view.specs.declared.Served.{Served}
 use Rattle.view.specs.declared.Served.the-variants.{Entry, Nothing}
@@ -23,13 +22,7 @@ serving list place =
     cond (eqb (first (listRows storeList list)) 0 && ltb place (countOf list))
     (1, getD (readEntries storeList list) place []) (0, [])
 
--- What a view holds beside the list: how many entries it shows.
+-- How many entries a view of the list shows. Of a view with this number what is served is the entry at the place; a
+-- view's fields are private, so there is no other.
 unfoldable pub shown : List ℕ → ℕ
 shown list = cond (eqb (first (listRows storeList list)) 0) (countOf list) 0
-
--- What a view of any list and any number serves. With the number that is shown, it is the entry at the place (law:
--- proofs/Serves, `view-serves`).
-unfoldable pub servedAt : List ℕ → (count place : ℕ) → Answer
-servedAt list count place =
-    cond (ltb place count && leb (9 + 5 * place) (length list))
-    (1, readRecord (storeList .entry) (drop (4 + 5 * place) list)) (0, [])

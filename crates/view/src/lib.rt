@@ -1,9 +1,9 @@
 // A view that holds a lent list and serves its entries. See specs/Serving.
 use cellfile::decode;
-use cellfile::form;
-use cellfile::form::Checked;
+use checks;
+use checks::Checked;
 ghost use mathlib.Core.Path.{_≡_};
-ghost use Rattle.view.specs.Serving.{served, serving, servedAt, shown as shownOf};
+ghost use Rattle.view.specs.Serving.{served, serving, shown as shownOf};
 
 // The entry at a place, or nothing.
 pub enum Served {
@@ -11,25 +11,25 @@ pub enum Served {
     Nothing,
 }
 
-// A lent list, and how many entries it shows.
+// A lent list, and how many entries it shows. `view_of` alone makes one.
 pub struct View<'a> {
-    pub list: &'a [u8],
-    pub count: usize,
+    list: &'a [u8],
+    count: usize,
 }
 
 // How many entries the list shows: none where refusals 2 to 6 say no.
 fn shown(list: &[u8]) -> usize
     ensures { λ r. ⌜ r ≡ shownOf (now (list .entry)) ⌝ }
 {
-    match form::check_list(list) {
+    match checks::check_list(list) {
         Checked::Refused(_) => 0,
         Checked::Accepted { n: _, m } => m,
     }
 }
 
-// The entry at a place below the count, where the list has its bytes.
+// The entry at a place below the count.
 fn served_at(list: &[u8], count: usize, place: usize) -> Served
-    ensures { λ r. ⌜ served r ≡ servedAt (now (list .entry)) count place ⌝ }
+    ensures { λ r. ⌜ (count ≡ shownOf (now (list .entry)) → served r ≡ serving (now (list .entry)) place) ⌝ }
 {
     if count <= place {
         return Served::Nothing;
@@ -59,7 +59,8 @@ pub fn view_of<'a>(list: &'a [u8]) -> View<'a>
 
 // The entry at a place of the view.
 pub fn serve<'a>(v: View<'a>, place: usize) -> Served
-    ensures { λ r. ⌜ served r ≡ servedAt (now (v .entry .list)) (v .entry .count) place ⌝ }
+    ensures { λ r. ⌜ (v .entry .count ≡ shownOf (now (v .entry .list))
+        → served r ≡ serving (now (v .entry .list)) place) ⌝ }
 {
     served_at(v.list, v.count, place)
 }

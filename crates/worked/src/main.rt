@@ -1,12 +1,12 @@
 // The worked lists that are compared by running the calls: those that concern sizes, each weighed with the empty
 // pairing; a list that no step shortens, reduced; a list whose points outgrow 20 bits, replayed; all pairs of 12 and of
 // 13 cells, solved.
-use cellfile::Weighed;
 use cellfile::decode;
 use cellfile::decode::byte_at;
 use lifting::Paired;
 use reduction::Reduced;
 use reduction::Replayed;
+use weighing::Weighed;
 ghost use mathlib.Core.Path.{_≡_};
 ghost use Prim.Native.Nat.{_+_, _*_, _≤_};
 ghost use lib.ListN.{length};
@@ -22,7 +22,7 @@ fn line(name: &[u8], answer: &[u8], value: u64) {
 fn show(name: &[u8], list: &[u8], none: &[u8]) {
     let mut work_a = [0u64; 8192];
     let mut work_b = [0u64; 8192];
-    match cellfile::weigh(list, none, &mut work_a, &mut work_b) {
+    match weighing::weigh(list, none, &mut work_a, &mut work_b) {
         Weighed::Refused(k) => line(name, b"refused ", k as u64),
         Weighed::Points(p) => line(name, b"points ", p),
     }

@@ -1,7 +1,6 @@
 -- `cells_lift` answers what `lift` answers, as numbers.
 use mathlib.Core.Path.{sym, ap, _∙_}
-use Rattle.cellfile.specs.Answers.{Answer}
-use Rattle.reduction.specs.Calls.{written}
+use Rattle.cellfile.specs.Answers.{Answer, written}
 use Rattle.lifting.specs.Calls.{paired, liftFile}
 use Rattle.cells_c.specs.Numbers.{valueOr}
 use borrow.Author.Needs.{needs}

@@ -1,7 +1,8 @@
 -- `cells_reduce` answers what `reduce` answers, as numbers.
 use mathlib.Core.Path.{sym, ap, _∙_}
-use Rattle.cellfile.specs.Answers.{Answer}
-use Rattle.reduction.specs.Calls.{reduced, written, slipFile, shortFile, reduceSteps}
+use Rattle.cellfile.specs.Answers.{Answer, written}
+use Rattle.reduction.specs.Calls.{reduced, slipFile, shortFile}
+use Rattle.starting.specs.Steps.{reduceSteps}
 use Rattle.cells_c.specs.Numbers.{valueOr}
 use borrow.Author.Needs.{needs}
 use Rattle.cells_c.proofs.cells_reduce.Statement.{statement}

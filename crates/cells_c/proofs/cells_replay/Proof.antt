@@ -1,7 +1,7 @@
 -- `cells_replay` answers what `replay` answers, as numbers.
 use mathlib.Core.Path.{sym, ap, _∙_}
-use Rattle.cellfile.specs.Answers.{Answer}
-use Rattle.reduction.specs.Calls.{replayed, written, replayShort}
+use Rattle.cellfile.specs.Answers.{Answer, written}
+use Rattle.reduction.specs.Calls.{replayed, replayShort}
 use Rattle.cells_c.specs.Numbers.{valueOr}
 use borrow.Author.Needs.{needs}
 use Rattle.cells_c.proofs.cells_replay.Statement.{statement}

@@ -1,6 +1,7 @@
 -- `cells_weigh` answers what `weigh` answers, as numbers.
 use mathlib.Core.Path.{sym, ap, _∙_}
-use Rattle.cellfile.specs.Answers.{Answer, weighed}
+use Rattle.cellfile.specs.Answers.{Answer}
+use Rattle.weighing.specs.Weigh.{weighed}
 use Rattle.cells_c.specs.Numbers.{valueOr}
 use borrow.Author.Needs.{needs}
 use Rattle.cells_c.proofs.cells_weigh.Statement.{statement}

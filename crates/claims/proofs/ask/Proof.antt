@@ -4,11 +4,10 @@ use mathlib.Core.Path.{sym, ap}
 use native.Mathlib.Omega.{arith}
 use lib.Seq.{length-take-le}
 use borrow.Author.Needs.{needs}
-use Rattle.cellfile.specs.Answers.{weighed}
+use Rattle.weighing.specs.Weigh.{weighed}
 use Rattle.reduction.specs.Calls.{replayed}
 use Rattle.lifting.specs.Calls.{paired}
-use Rattle.claims.proofs.Telling.{Given, lift-room, replay-refused, lift-refused}
-use Rattle.claims.proofs.Telling.{weigh-refused, all-answered}
+use Rattle.claims.proofs.Telling.{Given, lift-room, replay-refused, lift-refused, weigh-refused, all-answered}
 use Rattle.claims.proofs.ask.Statement.{statement}
 use Rattle.claims.proofs.ask.Tie as tie
 

@@ -1,6 +1,6 @@
 -- `pair` answers what `pair_in` answers, and clears both buffers.
 use mathlib.Core.Path.{ap, _∙_}
-use Rattle.cellfile.specs.Files.{zeros}
+use Rattle.buffers.specs.Buffers.{zeros}
 use borrow.Author.Needs.{needs}
 use Rattle.lifting.proofs.pair.Statement.{statement}
 use Rattle.lifting.proofs.pair.Tie as tie

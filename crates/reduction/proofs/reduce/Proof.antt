@@ -1,6 +1,6 @@
 -- `reduce` answers what `reduce_in` answers, and clears both buffers.
 use mathlib.Core.Path.{ap, _∙_}
-use Rattle.cellfile.specs.Files.{zeros}
+use Rattle.buffers.specs.Buffers.{zeros}
 use borrow.Author.Needs.{needs}
 use Rattle.reduction.proofs.reduce.Statement.{statement}
 use Rattle.reduction.proofs.reduce.Tie as tie

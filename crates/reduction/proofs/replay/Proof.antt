@@ -1,6 +1,6 @@
 -- `replay` answers what `replay_in` answers, and clears both buffers.
 use mathlib.Core.Path.{ap, _∙_}
-use Rattle.cellfile.specs.Files.{zeros}
+use Rattle.buffers.specs.Buffers.{zeros}
 use borrow.Author.Needs.{needs}
 use Rattle.reduction.proofs.replay.Statement.{statement}
 use Rattle.reduction.proofs.replay.Tie as tie

@@ -7,8 +7,10 @@ use lib.ListN.{length}
 use lib.Seq.{length-take-le}
 use borrow.Author.Needs.{needs}
 use Rattle.cellfile.specs.Files.{storeList}
-use Rattle.cellfile.specs.Refusals.{first, listRows}
-use Rattle.reduction.specs.Calls.{reduced, written, slipFile, shortFile, reduceSteps}
+use Rattle.checks.specs.Refusals.{first, listRows}
+use Rattle.reduction.specs.Calls.{reduced, slipFile, shortFile}
+use Rattle.cellfile.specs.Answers.{written}
+use Rattle.starting.specs.Steps.{reduceSteps}
 use Rattle.report.specs.Printed.{ascii}
 use Rattle.report.proofs.Appending.{append-is, append-made}
 use Rattle.report.proofs.Fields.{short-most}

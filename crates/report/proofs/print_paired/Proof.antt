@@ -6,7 +6,7 @@ use native.Mathlib.Omega.{arith}
 use lib.ListN.{length}
 use lib.Seq.{length-take-le}
 use borrow.Author.Needs.{needs}
-use Rattle.reduction.specs.Calls.{written}
+use Rattle.cellfile.specs.Answers.{written}
 use Rattle.lifting.specs.Calls.{paired, pairingFile}
 use Rattle.report.specs.Printed.{ascii, made, printed}
 use Rattle.report.proofs.Appending.{append-is, append-made}

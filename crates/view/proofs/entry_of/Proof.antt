@@ -1,8 +1,8 @@
--- `entry_of`, walked by hand: the view that `view_of` answers is held in a local and passed to `serve`; `view-serves`
--- tells what that is of the list. In a local the code erases the lifetime of the view's type, so the value is shown to
+-- `entry_of`, walked by hand: the view that `view_of` answers is held in a local and passed to `serve`, so that
+-- its number is the one that is shown. In a local the code erases the lifetime of the view's type, so the value is shown to
 -- have the type at `erased`: what a view owns does not say the lifetime's name. Of `view_of` and of `serve` only their
 -- contracts are known. Assumes nothing.
-use mathlib.Core.Path.{_≡_, refl, ap, _∙_}
+use mathlib.Core.Path.{_≡_, refl, sym, ap, _∙_}
 use Prim.Native.Nat.{ℕ, _<_, _^_}
 use mathlib.Core.List.{List, [], _∷_}
 use lib.ListN.{length}
@@ -20,8 +20,8 @@ use contract.Monad.{Fun, fact}
 use contract.Running.{givenOf, tables, tablesOf}
 use types.Kit.{Given, Item, ‵, raw, _⊛_, ⋆, some, later, _$_, _∵_, !, qed, by, move, drop, use1, use2, split, join}
 use types.Kit.{pick, fsplit, fjoin, suffices, frame, await, done}
-use types.Run.{look, init, forget, stop, from, load, and-then, no-more, land, returns, enter}
-use types.Run.{alloc1, alloc0, params1, pass1, pass0, free1, free0}
+use types.Run.{look, init, forget, stop, from, load, and-then, no-more, land, returns, enter, alloc1, alloc0, params1}
+use types.Run.{pass1, pass0, free1, free0}
 use sound.WpLaws.{FmC, fmOf, WpFn-mono}
 use denote.RattleType.{RattleType, owns}
 use denote.Laws.{Is, shows}
@@ -42,10 +42,9 @@ use denote.Triple.Walked.{says, Stays, stay-none, stay-none-slice, goes-none, go
 use denote.Triple.Walked.{walked, walk-meets}
 use denote.Exit.{yes}
 use denote.Triple.Clauses.{ensured, lasts}
-use Rattle.view.specs.Serving.{served, serving, servedAt, shown}
+use Rattle.view.specs.Serving.{served, serving, shown}
 use Rattle.view.specs.declared.View.{View}
 use Rattle.view.specs.declared.Served.{Served}
-use Rattle.view.proofs.Serves.{view-serves}
 use Rattle.view.proofs.View as T
 use Rattle.view.proofs.View.Laws as T′
 use Rattle.view.proofs.Served as S
@@ -76,14 +75,14 @@ Views s r = (r .list ≡ s) × (r .count ≡ shown (now s))
 
 -- what is known of the answer that `serve` gives for the view at i
 abbrev Serves : View → ℕ → Served → Type 0
-Serves r i t = served t ≡ servedAt (now (r .list)) (r .count) i
+Serves r i t = r .count ≡ shown (now (r .list)) → served t ≡ serving (now (r .list)) i
 
 -- so it is the entry of s at i
 serves : (s : RefT (List ℕ)) (i : ℕ) (r : View) (t : Served) → Views s r → Serves r i t
     → served t ≡ serving (now s) i
 serves s i r t e e′ =
-    e′ ∙ (ap (λ (x : RefT (List ℕ)). servedAt (now x) (r .count) i) (e .0)
-    ∙ (ap (λ (n : ℕ). servedAt (now s) n i) (e .1) ∙ view-serves (now s) i))
+    e′ (e .1 ∙ ap (λ (x : RefT (List ℕ)). shown (now x)) (sym (e .0)))
+    ∙ ap (λ (x : RefT (List ℕ)). serving (now x) i) (e .0)
 
 module _ {M : Type 1} (𝓤 : URA M) (H : Heap 𝓤) (A : Atoms 𝓤) (mem : Memory → SProp 𝓤) (run : Routine → Fun 𝓤) where
   -- the contracts of `view_of` and `serve`

@@ -19,8 +19,8 @@ use ghost.Atoms.{Atoms, sem}
 use contract.Lifetimes.{Lfts}
 use contract.Monad.{Fun, fact}
 use contract.Running.{givenOf, tables, tablesOf}
-use types.Kit.{Given, Item, ‵, raw, _⊛_, given, ⋆, some, later, _$_, _∵_, !, qed, by, move, drop, use1, use2}
-use types.Kit.{split, join, learn, pick, fsplit, fjoin, suffices, frame, await, done}
+use types.Kit.{Given, Item, ‵, raw, _⊛_, given, ⋆, some, later, _$_, _∵_, !, qed, by, move, drop, use1, use2, split}
+use types.Kit.{join, learn, pick, fsplit, fjoin, suffices, frame, await, done}
 use types.Part.{whole, sub, look-in}
 use types.Run.{look, init, forget, stop, fld, from, load, of-opd, and-then, no-more, assigns, land, returns, enter}
 use types.Run.{alloc1, alloc0, params1, pass1, pass0, free1, free0}
@@ -47,8 +47,7 @@ use denote.Triple.Table.{entered, cited}
 use denote.Triple.Walked.{says, Stays, stay-none, walkOf, goes-none, Walks, ends-at, walked, walk-meets}
 use denote.Exit.{yes}
 use denote.Triple.Clauses.{ensured, lasts}
-use Rattle.cellfile.specs.Answers.{Answer}
-use Rattle.view.specs.Serving.{served, servedAt}
+use Rattle.view.specs.Serving.{served, serving, shown}
 use Rattle.view.specs.declared.View.{View}
 use Rattle.view.specs.declared.Served.{Served}
 use Rattle.view.proofs.View as T
@@ -97,8 +96,9 @@ module _ {M : Type 1} (𝓤 : URA M) (H : Heap 𝓤) (A : Atoms 𝓤) (W : Given
   abbrev at : Vals serve.signature (κ, tt)
   at = (mach ∷ [], (vint w64 i ∷ [], tt))
 
-  abbrev found : Answer
-  found = servedAt (now (d .list)) (d .count) i
+  -- what is said of an answer
+  abbrev Found : Served → Type 0
+  Found r = d .count ≡ shown (now (d .list)) → served r ≡ serving (now (d .list)) i
 
   abbrev Post : Val → SProp 𝓤
   Post =
@@ -155,12 +155,12 @@ module _ {M : Type 1} (𝓤 : URA M) (H : Heap 𝓤) (A : Atoms 𝓤) (W : Given
   Ensured r =
       ensured 𝓤 H A at-place.ended (at-place.clauses 𝓤 H A mem run) (κ, tt) (d .list, (d .count, (i, tt))) tt r
 
-  said : (r : Served) → ent 𝓤 (Ensured r) (fact 𝓤 (served r ≡ found))
+  said : (r : Served) → ent 𝓤 (Ensured r) (fact 𝓤 (Found r))
   said r =
       exE 𝓤 _ (λ ws. snd∗ 𝓤 (sem 𝓤 H A (lasts at-place.ended (κ, tt) (d .list, (d .count, (i, tt))) ws))
-      (fact 𝓤 (served r ≡ found)))
+      (fact 𝓤 (Found r)))
 
-  exits : i < 2 ^ 64 → (r : Served) (u : Val) → served r ≡ found
+  exits : i < 2 ^ 64 → (r : Served) (u : Val) → Found r
       → ent 𝓤 (⋆ 𝓤 H A (‵ (S.the-row .own r (u ∷ [])) ∷ token ∷ ‵ Own ∷ [])) (Post u)
   exits gi r u e =
       qed W (‵ (S.the-row .own r (u ∷ [])) ∷ token ∷ ‵ Own ∷ []) ∵
@@ -191,7 +191,7 @@ module _ {M : Type 1} (𝓤 : URA M) (H : Heap 𝓤) (A : Atoms 𝓤) (W : Given
         (no-more !)))) (λ u.
         use1 W (later (some (λ (r : Served). (token ⊛ ‵ (S.the-row .own r (u ∷ []))) ⊛ raw (Ensured r)))) (id⊢ 𝓤 _) $
         await ! tt $ pick ! (λ r. split ! $ move ! (1 ∷ []) $
-        use1 W (raw (fact 𝓤 (served r ≡ found))) (said r) $ heard ! (served r ≡ found) (λ e. split ! $ move ! (1 ∷ []) $
+        use1 W (raw (fact 𝓤 (Found r))) (said r) $ heard ! (Found r) (λ e. split ! $ move ! (1 ∷ []) $
         -- [the answer; the token; what the view owns; the locals from the last to the answer's]
         peeks ! S.the-row (Is S.the-row) (shows 𝓤 H A S.the-row) r (u ∷ []) (λ is.
         land ! (from ! (stop !)) (init ! 11 refl (EL.lawful S.the-type S′.the-laws 𝓤 H A W tt .typed r _ is .0)) $

@@ -1,6 +1,6 @@
 -- `shown` answers the count of a list that the check accepts, and 0 of one that it refuses.
 use mathlib.Core.Path.{sym, ap, _∙_}
-use Rattle.cellfile.specs.Answers.{checked}
+use Rattle.checks.specs.Checking.{checked}
 use Rattle.view.proofs.Serves.{shown-refused, shown-accepted}
 use borrow.Author.Needs.{needs}
 use Rattle.view.proofs.shown.Statement.{statement}

@@ -20,8 +20,8 @@ use contract.Running.{givenOf, tables, tablesOf}
 use types.Kit.{Given, Item, ‵, raw, _⊛_, ⋆, some, later, _$_, _∵_, !, qed, by, move, drop, use1, use2, split, join}
 use types.Kit.{pick, rewrite, fsplit, fjoin, suffices, frame, await, done}
 use types.Part.{agg}
-use types.Run.{look, init, forget, stop, from, load, and-then, no-more, assigns, land, returns, enter}
-use types.Run.{alloc1, alloc0, params1, pass1, pass0, free1, free0}
+use types.Run.{look, init, forget, stop, from, load, and-then, no-more, assigns, land, returns, enter, alloc1, alloc0}
+use types.Run.{params1, pass1, pass0, free1, free0}
 use sound.WpLaws.{FmC, fmOf, WpFn-mono}
 use denote.RattleType.{owns}
 use denote.Laws.{Is, shows}

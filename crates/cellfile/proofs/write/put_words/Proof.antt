@@ -3,7 +3,7 @@ use Prim.Native.Nat.{_+_, _*_, _-_, _≤_}
 use mathlib.Core.Path.{_≡_, refl, sym, ap, _∙_}
 use lib.ListN.{length, take}
 use Rattle.cellfile.specs.Files.{onto}
-use Rattle.cellfile.specs.Loops.{wordBytes}
+use Rattle.cellfile.specs.Words.{wordBytes}
 use Rattle.cellfile.proofs.Outputs.{part-room, onto-next, words-next, words-room, words-at, length-taken}
 use borrow.Author.Needs.{needs}
 use native.Mathlib.Omega.{arith}

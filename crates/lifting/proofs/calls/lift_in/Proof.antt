@@ -1,10 +1,10 @@
 -- `lift_in` answers what the start refuses, or what `lift_tail` answers.
 use mathlib.Core.Path.{refl, subst}
 use mathlib.Core.List.{[], _∷_}
-use Rattle.cellfile.specs.Files.{lent}
-use Rattle.reduction.specs.Starting.{slipStart, Starts}
-use Rattle.reduction.proofs.Layers.{refused}
-use Rattle.reduction.proofs.Starts.{started, not-started}
+use Rattle.buffers.specs.Buffers.{lent}
+use Rattle.starting.specs.Starting.{slipStart, Starts}
+use Rattle.checks.proofs.Answering.{refused}
+use Rattle.starting.proofs.Starts.{started, not-started}
 use Rattle.lifting.proofs.Lifting.{start-there, lift-passed}
 use borrow.Author.Needs.{needs}
 use Rattle.lifting.proofs.calls.lift_in.Statement.{statement}

@@ -1,6 +1,6 @@
 -- `lift_tail` answers refusal 9, or what `lift_pairing` answers.
 use mathlib.Core.Path.{sym, ap, _∙_}
-use Rattle.cellfile.specs.Answers.{checked}
+use Rattle.checks.specs.Checking.{checked}
 use Rattle.lifting.specs.Tail.{TailThere}
 use Rattle.lifting.proofs.Lifting.{tail-pairs, nine-refused, nine-there, nine-passed}
 use borrow.Author.Needs.{needs}

@@ -1,8 +1,8 @@
 -- `solve_in` answers what the start refuses, or what `solve_tail` answers.
 use mathlib.Core.Path.{subst}
-use Rattle.cellfile.specs.Files.{lent}
-use Rattle.reduction.specs.Starting.{Starts}
-use Rattle.reduction.proofs.Starts.{started, not-started}
+use Rattle.buffers.specs.Buffers.{lent}
+use Rattle.starting.specs.Starting.{Starts}
+use Rattle.starting.proofs.Starts.{started, not-started}
 use borrow.Author.Needs.{needs}
 use Rattle.lifting.proofs.Solves.{solve-refused, solve-left, solve-passed}
 use Rattle.lifting.proofs.calls.solve_in.Statement.{statement}

@@ -1,7 +1,7 @@
 -- `solve_tail` answers 11 where `solve_left` finds too many cells, or what `write_pairs` answers.
 use mathlib.Core.Path.{subst}
 use borrow.Author.Needs.{needs}
-use Rattle.lifting.specs.Left.{Solves}
+use Rattle.solving.specs.Left.{Solves}
 use Rattle.lifting.proofs.Solves.{tail-crowded, tail-room, tail-written}
 use Rattle.lifting.proofs.calls.solve_tail.Statement.{statement}
 use Rattle.lifting.proofs.calls.solve_tail.Tie as tie

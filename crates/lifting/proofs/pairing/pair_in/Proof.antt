@@ -2,11 +2,12 @@
 use mathlib.Core.Path.{refl, subst}
 use mathlib.Core.List.{[], _∷_}
 use Rattle.matching.specs.Graph.{cellsLeft}
-use Rattle.cellfile.specs.Files.{cellsOf, lent}
-use Rattle.reduction.specs.Calls.{reduceSteps}
-use Rattle.reduction.specs.Starting.{listStart, Starts}
-use Rattle.reduction.proofs.Layers.{refused}
-use Rattle.reduction.proofs.Starts.{started, not-started}
+use Rattle.cellfile.specs.Files.{cellsOf}
+use Rattle.buffers.specs.Buffers.{lent}
+use Rattle.starting.specs.Steps.{reduceSteps}
+use Rattle.starting.specs.Starting.{listStart, Starts}
+use Rattle.checks.proofs.Answering.{refused}
+use Rattle.starting.proofs.Starts.{started, not-started}
 use Rattle.lifting.specs.Calls.{graphAfter}
 use Rattle.lifting.specs.Tail.{crowdedRow}
 use Rattle.lifting.proofs.Tailing.{reduce-tail, pair-passed}

@@ -1,7 +1,7 @@
 -- `pair_tail` answers refusal 11 where too many cells are left, else what `bring_back` answers.
 use mathlib.Core.Path.{subst}
 use Rattle.slots.specs.Slots.{graphOf}
-use Rattle.lifting.specs.Left.{Solves}
+use Rattle.solving.specs.Left.{Solves}
 use Rattle.lifting.proofs.Tailing.{tail-left, tail-words, tail-returns, tail-crowded, tail-passed}
 use borrow.Author.Needs.{needs}
 use Rattle.lifting.proofs.pairing.pair_tail.Statement.{statement}

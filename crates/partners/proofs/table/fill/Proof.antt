@@ -6,10 +6,10 @@ use native.Mathlib.Omega.{arith}
 use lib.ListN.{length, drop, length-set}
 use borrow.Author.Needs.{needs}
 use Rattle.cellfile.specs.Reads.{PairRead}
-use Rattle.cellfile.specs.Loops.{pairs}
+use Rattle.cellfile.specs.Words.{pairs}
 use Rattle.cellfile.proofs.Walk.{part}
-use Rattle.partners.proofs.Filling.{Filling, toEnter, fill-first, fill-here, fill-last}
-use Rattle.partners.proofs.Filling.{fill-twice-a, fill-twice-b, fill-next}
+use Rattle.partners.proofs.Filling.{Filling, toEnter, fill-first, fill-here, fill-last, fill-twice-a}
+use Rattle.partners.proofs.Filling.{fill-twice-b, fill-next}
 use Rattle.partners.proofs.table.fill.Statement.{statement}
 use Rattle.partners.proofs.table.fill.Tie as tie
 

@@ -6,7 +6,7 @@ use native.Mathlib.Omega.{arith}
 use lib.ListN.{length, drop, length-set}
 use borrow.Author.Needs.{needs}
 use Rattle.matching.specs.Pairs.{Pair}
-use Rattle.partners.specs.Words.{WordsThere}
+use Rattle.partners.specs.Table.{WordsThere}
 use Rattle.partners.proofs.Filling.{Filling}
 use Rattle.partners.proofs.Wording.{words-start, words-next, words-end}
 use Rattle.partners.proofs.table.fill_words.Statement.{statement}

@@ -7,11 +7,12 @@ use native.Mathlib.Omega.{arith}
 use lib.ListN.{take, drop}
 use borrow.Author.Needs.{needs}
 use Rattle.cellfile.specs.Reads.{PairRead}
-use Rattle.cellfile.specs.Loops.{pairs}
+use Rattle.cellfile.specs.Words.{pairs}
 use Rattle.cellfile.proofs.Walk.{part}
-use Rattle.partners.specs.Entering.{wordKey, pairKey, absent}
-use Rattle.partners.proofs.Missing.{absentFrom, absent-start, absent-end, absent-out}
-use Rattle.partners.proofs.Missing.{absent-above, absent-same, absent-below}
+use Rattle.partners.specs.Entering.{wordKey, absent}
+use Rattle.cellfile.specs.Files.{pairKey}
+use Rattle.partners.proofs.Missing.{absentFrom, absent-start, absent-end, absent-out, absent-above, absent-same}
+use Rattle.partners.proofs.Missing.{absent-below}
 use Rattle.partners.proofs.table.missing.Statement.{statement}
 use Rattle.partners.proofs.table.missing.Tie as tie
 

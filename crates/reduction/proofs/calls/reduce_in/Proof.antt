@@ -1,10 +1,10 @@
 -- `reduce_in` answers what the start refuses, or what `write_both` answers.
 use mathlib.Core.Path.{refl, subst}
 use mathlib.Core.List.{[]}
-use Rattle.cellfile.specs.Files.{lent}
-use Rattle.reduction.specs.Starting.{listStart, Starts}
-use Rattle.reduction.proofs.Layers.{refused}
-use Rattle.reduction.proofs.Starts.{started, not-started}
+use Rattle.buffers.specs.Buffers.{lent}
+use Rattle.starting.specs.Starting.{listStart, Starts}
+use Rattle.checks.proofs.Answering.{refused}
+use Rattle.starting.proofs.Starts.{started, not-started}
 use Rattle.reduction.proofs.Reducing.{reduce-left, reduce-passed}
 use borrow.Author.Needs.{needs}
 use Rattle.reduction.proofs.calls.reduce_in.Statement.{statement}

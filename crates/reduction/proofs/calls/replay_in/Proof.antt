@@ -1,10 +1,10 @@
 -- `replay_in` answers what the start refuses, or what `write_left` answers.
 use mathlib.Core.Path.{refl, subst}
 use mathlib.Core.List.{[]}
-use Rattle.cellfile.specs.Files.{lent}
-use Rattle.reduction.specs.Starting.{slipStart, Starts}
-use Rattle.reduction.proofs.Layers.{refused}
-use Rattle.reduction.proofs.Starts.{started, not-started}
+use Rattle.buffers.specs.Buffers.{lent}
+use Rattle.starting.specs.Starting.{slipStart, Starts}
+use Rattle.checks.proofs.Answering.{refused}
+use Rattle.starting.proofs.Starts.{started, not-started}
 use Rattle.reduction.proofs.Replaying.{replay-left, replay-passed}
 use borrow.Author.Needs.{needs}
 use Rattle.reduction.proofs.calls.replay_in.Statement.{statement}

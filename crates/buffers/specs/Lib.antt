@@ -1,0 +1,2 @@
+-- The work buffers lent to a call.
+pub mod Buffers

@@ -1,0 +1,83 @@
+-- The layers that the calls with outputs share. In order: an output that is kept is right where the call is refused;
+-- what some rows refuse, and what they pass on to the rows after them (`refused`, `passed`); refusal 12 (`no-room`,
+-- `rooms`). Assumes nothing.
+use mathlib.Core.Path.{_≡_, refl, sym, ap, _∙_}
+use mathlib.Core.Bool.{Bool, true, false, _||_}
+use mathlib.Core.List.{List, [], _∷_, _++_, map, append-assoc}
+use Prim.Native.Nat.{ℕ, zero, suc, _≤_, _<_}
+use native.Mathlib.Omega.{arith}
+use borrow.Author.Tests.{lt-ltb, le-ltb}
+use lib.Dec.{ltb}
+use lib.ListN.{length}
+use Rattle.matching.specs.Lists.{All}
+use Rattle.matching.proofs.Alls.{all-map}
+use Rattle.cellfile.specs.Files.{onto}
+use Rattle.checks.specs.Refusals.{Row, first, shortOutput}
+use Rattle.cellfile.specs.Answers.{Answer, answer, written}
+use Rattle.checks.proofs.Layers.{layer-refused, layer-passed}
+use Rattle.checks.specs.Answering.{Output, lengths, roomRow, Does}
+
+-- ---- outputs that are kept
+
+abbrev pub Kept : List Output → Type 0
+Kept outs = All (λ (o : Output). o .2 ≡ o .1) outs
+
+refused-written : (n k v : ℕ) (vs file out : List ℕ) → (k, []) ≡ answer n (v ∷ vs) → out ≡ written k file out
+refused-written zero k v vs file out e = absurd (omega (arith, ap (λ (a : Answer). length (a .1)) e))
+refused-written (suc n) k v vs file out e =
+    let q : k ≡ suc n = ap (λ (a : Answer). a .0) e in
+    rw q
+
+-- ---- rows, and those after them
+
+-- rows in two parts
+parted : (rows more : List Row) (outs : List Output) (a : Answer)
+    → a ≡ answer (first (rows ++ (more ++ (roomRow outs ∷ [])))) (lengths outs)
+    → a ≡ answer (first ((rows ++ more) ++ (roomRow outs ∷ []))) (lengths outs)
+parted rows more outs a e =
+    e ∙ ap (λ rs. answer (first rs) (lengths outs)) (sym (append-assoc rows more (roomRow outs ∷ [])))
+
+module _ (rows more : List Row) {outs : List Output} where
+  pub refused : (v : ℕ) (vs : List ℕ) {k : ℕ} → (k, []) ≡ answer (first rows) (v ∷ vs) → Kept outs
+      → Does (rows ++ more) outs (k, [])
+  refused v vs {k} e h = record {
+    says = parted rows more outs (k, []) (layer-refused rows (more ++ (roomRow outs ∷ [])) (lengths outs) k v vs e);
+    writes = all-map (λ o p. p ∙ refused-written (first rows) k v vs (o .0) (o .1) e) outs h;
+  }
+
+  pub passed : {a : Answer} → All (λ (r : Row). 0 < r .0) rows → first rows ≡ 0 → Does more outs a
+      → Does (rows ++ more) outs a
+  passed {a} h e d = record {
+    says = parted rows more outs a (layer-passed rows (more ++ (roomRow outs ∷ [])) (lengths outs) h e (d .says));
+    writes = d .writes;
+  }
+
+-- ---- refusal 12
+
+abbrev short : Output → Bool
+short o = ltb (length (o .1)) (length (o .0))
+
+or-true : (t u : Bool) → u ≡ true → (t || u) ≡ true
+or-true true u e = refl
+or-true false u e = e
+
+some-short : (xs : List Output) (o : Output) (ys : List Output) → length (o .1) < length (o .0)
+    → shortOutput (map (λ (o : Output). (length (o .1), length (o .0))) (xs ++ o ∷ ys)) ≡ true
+unfolding shortOutput
+some-short [] o ys l = rw (lt-ltb (length (o .1)) (length (o .0)) l)
+some-short (x ∷ xs) o ys l = or-true (short x) _ (some-short xs o ys l)
+
+none-short : (outs : List Output) → All (λ (o : Output). length (o .0) ≤ length (o .1)) outs
+    → shortOutput (map (λ (o : Output). (length (o .1), length (o .0))) outs) ≡ false
+unfolding shortOutput
+none-short [] h = refl
+none-short (o ∷ outs) h = rw (le-ltb (length (o .1)) (length (o .0)) (h .0)) (none-short outs (h .1))
+
+pub no-room : (xs : List Output) (o : Output) (ys : List Output) → length (o .1) < length (o .0)
+    → Kept (xs ++ o ∷ ys) → Does [] (xs ++ o ∷ ys) (12, [])
+no-room xs o ys l h = record { says = rw (some-short xs o ys l); writes = h }
+
+pub rooms : (outs : List Output) → All (λ (o : Output). length (o .0) ≤ length (o .1)) outs
+    → All (λ (o : Output). o .2 ≡ onto (o .0) (o .1)) outs
+    → Does [] outs (0, lengths outs)
+rooms outs l h = record { says = rw (none-short outs l); writes = h }

@@ -1,0 +1,176 @@
+-- A call checks its inputs one after the other, each by a function that answers the first of that input's rows. These
+-- laws put the answers together: what is refused by some rows is refused by them and any rows after them, and where
+-- they refuse nothing the rows after them decide. At the end: the answer to a whole call's rows is 0 and the values
+-- just where none of them holds (`call-passes`, `call-sound`), and a refusal's number just where its row is the first
+-- that holds (`call-refused`).
+use Prim.Native.Nat.{ℕ, zero, suc, _<_}
+use mathlib.Core.Path.{_≡_, refl, sym, ap, _∙_}
+use mathlib.Core.Logic.{_≢_, _↔_}
+use mathlib.Core.Bool.{Bool, true, false, cond}
+use mathlib.Core.List.{List, [], _∷_, _++_}
+use native.Mathlib.Omega.{arith}
+use lib.ListN.{length}
+use Rattle.cellfile.specs.Files.{storeList}
+use Rattle.checks.specs.Refusals.{Row, first, fewWords, listRows}
+use Rattle.cellfile.specs.Answers.{Answer, answer}
+use Rattle.matching.specs.Lists.{All}
+use Rattle.matching.proofs.Alls.{all-append}
+use Rattle.checks.proofs.Rows.{first-none, list-none}
+
+-- ---- answers
+
+-- an answer with no value is a refusal, where an accepted one has a value
+pub answer-refused : (n k v : ℕ) (vs : List ℕ) → (k, []) ≡ answer n (v ∷ vs) → (0 < n) × (k ≡ n)
+answer-refused zero k v vs e = absurd (omega (arith, ap (λ (a : Answer). length (a .1)) e))
+answer-refused (suc n) k v vs e = (omega arith, ap (λ (a : Answer). a .0) e)
+
+-- an answer with the number 0 is no refusal
+pub answer-accepted : (n : ℕ) (us vs : List ℕ) → (0, us) ≡ answer n vs → (n ≡ 0) × (us ≡ vs)
+answer-accepted zero us vs e = (refl, ap (λ (a : Answer). a .1) e)
+answer-accepted (suc n) us vs e = absurd (omega (arith, ap (λ (a : Answer). a .0) e))
+
+-- ---- rows after rows
+
+pub first-refused : (rows more : List Row) → 0 < first rows → first (rows ++ more) ≡ first rows
+first-refused [] more h = absurd (omega arith)
+first-refused (r ∷ rows) more h = go (r .1) h (first-refused rows more)
+  where
+    go : (t : Bool) → 0 < cond t (r .0) (first rows) → (0 < first rows → first (rows ++ more) ≡ first rows)
+        → cond t (r .0) (first (rows ++ more)) ≡ cond t (r .0) (first rows)
+    go true k i = refl
+    go false k i = i k
+
+pub first-passed : (rows more : List Row) → All (λ (r : Row). r .1 ≡ false) rows → first (rows ++ more) ≡ first more
+first-passed [] more h = refl
+first-passed (r ∷ rows) more h = rw (h .0, first-passed rows more (h .1))
+
+module _ (rows more : List Row) (values : List ℕ) where
+  pub layer-refused : (k v : ℕ) (vs : List ℕ) → (k, []) ≡ answer (first rows) (v ∷ vs)
+      → (k, []) ≡ answer (first (rows ++ more)) values
+  layer-refused k v vs e =
+      let r = answer-refused (first rows) k v vs e in
+      same (first rows) (r .0) (r .1) ∙ ap (λ n. answer n values) (sym (first-refused rows more (r .0)))
+    where
+      same : (n : ℕ) → 0 < n → k ≡ n → (k, []) ≡ answer n values
+      same zero h p = absurd (omega arith)
+      same (suc n) h p = rw p
+
+  pub layer-passed : {a : Answer} → All (λ (r : Row). 0 < r .0) rows → first rows ≡ 0
+      → a ≡ answer (first more) values → a ≡ answer (first (rows ++ more)) values
+  layer-passed h e p = p ∙ ap (λ n. answer n values) (sym (first-passed rows more (first-none rows h e)))
+
+-- ---- the rows of a call: 1, those of the list, and more
+
+rows-pass : (rows : List Row) (vs : List ℕ) → All (λ (r : Row). r .1 ≡ false) rows → answer (first rows) vs ≡ (0, vs)
+rows-pass [] vs h = refl
+rows-pass (r ∷ rows) vs h = rw (h .0) (rows-pass rows vs (h .1))
+
+rows-apart : (rows more : List Row) → All (λ (r : Row). r .1 ≡ false) (rows ++ more)
+    → (first rows ≡ 0) × All (λ (r : Row). r .1 ≡ false) more
+rows-apart [] more h = (refl, h)
+rows-apart (r ∷ rows) more h = let a = rows-apart rows more (h .1) in (rw (h .0) (a .0), a .1)
+
+-- the first row that holds has the number k, which no other row has
+never : (rows : List Row) (k : ℕ) → 0 < k → All (λ (r : Row). r .0 ≢ k) rows → first rows ≢ k
+never [] k h p = λ e. omega arith
+never (r ∷ rows) k h p = go (r .1) (never rows k h (p .1))
+  where
+    go : (t : Bool) → first rows ≢ k → cond t (r .0) (first rows) ≢ k
+    go true i = p .0
+    go false i = i
+
+first-at : (rows more : List Row) (k : ℕ) (t : Bool) → 0 < k → All (λ (r : Row). r .0 ≢ k) rows
+    → All (λ (r : Row). r .0 ≢ k) more → first (rows ++ (k, t) ∷ more) ≡ k
+    → All (λ (r : Row). r .1 ≡ false) rows × (t ≡ true)
+first-at [] more k t h p q e = (tt, go t e)
+  where
+    go : (t : Bool) → cond t k (first more) ≡ k → t ≡ true
+    go true d = refl
+    go false d = absurd (never more k h q d)
+first-at (r ∷ rows) more k t h p q e = go (r .1) e (first-at rows more k t h (p .1) q)
+  where
+    go : (s : Bool) → cond s (r .0) (first (rows ++ (k, t) ∷ more)) ≡ k
+        → (first (rows ++ (k, t) ∷ more) ≡ k → All (λ (r : Row). r .1 ≡ false) rows × (t ≡ true))
+        → ((s ≡ false) × All (λ (r : Row). r .1 ≡ false) rows) × (t ≡ true)
+    go true d i = absurd (p .0 d)
+    go false d i = let a = i d in ((refl, a .0), a .1)
+
+first-here : (rows more : List Row) (k : ℕ) (t : Bool) → All (λ (r : Row). r .1 ≡ false) rows → t ≡ true
+    → first (rows ++ (k, t) ∷ more) ≡ k
+first-here rows more k t p e = first-passed rows ((k, t) ∷ more) p ∙ ap (λ (s : Bool). cond s k (first more)) e
+
+answer-number : (n k : ℕ) (vs : List ℕ) → 0 < k → (answer n vs ≡ (k, [])) ↔ (n ≡ k)
+answer-number n k vs h = (λ e. number n e, λ e. ap (λ j. answer j vs) e ∙ refused k h)
+  where
+    number : (n : ℕ) → answer n vs ≡ (k, []) → n ≡ k
+    number zero e = ap (λ (a : Answer). a .0) e
+    number (suc n) e = ap (λ (a : Answer). a .0) e
+
+    refused : (k : ℕ) → 0 < k → answer k vs ≡ (k, [])
+    refused zero h = absurd (omega arith)
+    refused (suc k) h = refl
+
+module _ (list lent : List ℕ) (more : List Row) where
+  abbrev pub callRows : List Row
+  callRows = (1, fewWords lent) ∷ (listRows storeList list ++ more)
+
+  -- where none of them holds the answer is the values
+  pub call-passes : (values : List ℕ) → fewWords lent ≡ false → first (listRows storeList list) ≡ 0
+      → All (λ (r : Row). r .1 ≡ false) more → answer (first callRows) values ≡ (0, values)
+  call-passes values few h p =
+      rows-pass callRows values (
+        few,
+        all-append (λ (r : Row). r .1 ≡ false) (listRows storeList list) more (list-none storeList list h) p,
+      )
+
+  -- where the number is 0 none of them holds
+  pub call-sound : (us values : List ℕ) → All (λ (r : Row). 0 < r .0) more → answer (first callRows) values ≡ (0, us)
+      → (fewWords lent ≡ false) × (first (listRows storeList list) ≡ 0) × All (λ (r : Row). r .1 ≡ false) more
+      × (us ≡ values)
+  call-sound us values p e =
+      let a = answer-accepted (first callRows) us values (sym e) in
+      let b =
+      first-none callRows
+      (omega arith, all-append (λ (r : Row). 0 < r .0) (listRows storeList list) more (omega arith) p) (a .0) in
+      let c = rows-apart (listRows storeList list) more (b .1) in
+      (b .0, c .0, c .1, a .1)
+
+-- a number above 6 is answered just where its row is the first that holds
+pub call-refused : (list lent : List ℕ) (rows more : List Row) (k : ℕ) (t : Bool) (values : List ℕ) → 6 < k
+    → All (λ (r : Row). r .0 ≢ k) rows → All (λ (r : Row). r .0 ≢ k) more
+    → (answer (first (callRows list lent (rows ++ (k, t) ∷ more))) values ≡ (k, []))
+    ↔ ((fewWords lent ≡ false) × (first (listRows storeList list) ≡ 0) × All (λ (r : Row). r .1 ≡ false) rows
+    × (t ≡ true))
+call-refused list lent rows more k t values h p q = (to, from)
+  where
+    before : List Row
+    before = (1, fewWords lent) ∷ (listRows storeList list ++ rows)
+
+    others : All (λ (r : Row). r .0 ≢ k) (listRows storeList list)
+    others =
+        ((λ e. omega arith), ((λ e. omega arith), ((λ e. omega arith), ((λ e. omega arith), ((λ e. omega arith), tt)))))
+
+    number : (answer (first (before ++ (k, t) ∷ more)) values ≡ (k, [])) ↔ (first (before ++ (k, t) ∷ more) ≡ k)
+    number = answer-number (first (before ++ (k, t) ∷ more)) k values (omega arith)
+
+    Says : Type 0
+    Says =
+        (fewWords lent ≡ false) × (first (listRows storeList list) ≡ 0) × All (λ (r : Row). r .1 ≡ false) rows
+        × (t ≡ true)
+
+    to : answer (first (before ++ (k, t) ∷ more)) values ≡ (k, []) → Says
+    to e =
+        let a =
+        first-at before more k t (omega arith)
+        ((λ e. omega arith), all-append (λ (r : Row). r .0 ≢ k) (listRows storeList list) rows others p) q
+        (number .0 e) in
+        let b = rows-apart (listRows storeList list) rows (a .0 .1) in
+        (a .0 .0, b .0, b .1, a .1)
+
+    from : Says → answer (first (before ++ (k, t) ∷ more)) values ≡ (k, [])
+    from s =
+        number .1 (first-here before more k t (
+          s .0,
+          all-append (λ (r : Row). r .1 ≡ false) (listRows storeList list) rows (list-none storeList list (s .1))
+              (s .2),
+        ) (s .3))

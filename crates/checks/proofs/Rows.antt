@@ -1,0 +1,116 @@
+-- What follows where no refusal holds. In order: tests that fail; the rows of a call whose answer is 0, `first-none`;
+-- and, for each condition that the laws of files use, what its failing says.
+use Prim.Native.Nat.{ℕ, _+_, _*_, _<_, _≤_}
+use mathlib.Core.Path.{_≡_, refl, ap, _∙_}
+use mathlib.Core.Bool.{Bool, true, false, true≢false, not, cond, _||_}
+use mathlib.Core.List.{List, [], _∷_, map, map-map}
+use native.Mathlib.Omega.{arith}
+use borrow.Author.Tests.{eqb-true, ltb-false, leb-false, not-false}
+use lib.Dec.{ltb, leb, eqb}
+use lib.ListN.{length, getD}
+use Rattle.matching.specs.Lists.{any, All}
+use Rattle.matching.specs.Pairs.{Pair}
+use Rattle.matching.specs.Listed.{Entry}
+use Rattle.cellfile.specs.Files.{Layout, kindOf, cellsOf, countOf, zerosOf, fileLength, entriesOf, pairing, asPair}
+use Rattle.cellfile.specs.Files.{readEntries, pairsOf, key}
+use Rattle.checks.specs.Refusals.{Row, first, listRows, notAList, wrongLength, strayPair, strayEntry, tooLarge}
+use Rattle.checks.specs.Refusals.{ascendingFrom, unordered, misheaded, badPair, badPairing}
+use Rattle.matching.proofs.Alls.{all-map}
+use Rattle.cellfile.proofs.All.{all-values}
+
+-- ---- tests that fail
+
+pub or-none : (a b : Bool) → (a || b) ≡ false → (a ≡ false) × (b ≡ false)
+or-none true b e = absurd (true≢false e)
+or-none false b e = (refl, e)
+
+pub any-none : {A : Type 0} (t : A → Bool) (xs : List A) → any t xs ≡ false → All (λ (x : A). t x ≡ false) xs
+any-none t [] e = tt
+any-none t (x ∷ xs) e = let h = or-none (t x) (any t xs) e in (h .0, any-none t xs (h .1))
+
+-- of a test for a difference
+pub differ-none : (a b : ℕ) → not (eqb a b) ≡ false → a ≡ b
+differ-none a b e = eqb-true a b (not-false (eqb a b) e)
+
+-- ---- rows
+
+row-none : (t : Bool) (k rest : ℕ) → 0 < k → cond t k rest ≡ 0 → (t ≡ false) × (rest ≡ 0)
+row-none true k rest h e = absurd (omega arith)
+row-none false k rest h e = (refl, e)
+
+pub first-none : (rows : List Row) → All (λ (r : Row). 0 < r .0) rows → first rows ≡ 0
+    → All (λ (r : Row). r .1 ≡ false) rows
+first-none [] h e = tt
+first-none (r ∷ rows) h e =
+    let now = row-none (r .1) (r .0) (first rows) (h .0) e in
+    (now .0, first-none rows (h .1) (now .1))
+
+pub list-none : (l : Layout) (s : List ℕ) → first (listRows l s) ≡ 0 → All (λ (r : Row). r .1 ≡ false) (listRows l s)
+list-none l s e = first-none (listRows l s) (omega arith) e
+
+-- ---- conditions
+
+pub not-a-list-none : (l : Layout) (s : List ℕ) → notAList l s ≡ false → (kindOf s ≡ l .kind) × (zerosOf s ≡ 0)
+unfolding notAList
+not-a-list-none l s e =
+    let h = or-none (not (eqb (kindOf s) (l .kind))) _ (or-none (ltb (length s) 4) _ e .1) in
+    (differ-none _ _ (h .0), differ-none _ _ (h .1))
+
+pub too-large-none : (s : List ℕ) → tooLarge s ≡ false → (cellsOf s ≤ 1024) × (countOf s ≤ 4096)
+unfolding tooLarge
+too-large-none s e =
+    let h = or-none (ltb 1024 (cellsOf s)) _ e in
+    (ltb-false 1024 (cellsOf s) (h .0), ltb-false 4096 (countOf s) (h .1))
+
+pub wrong-length-none : (l : Layout) (s : List ℕ) → wrongLength l s ≡ false
+    → length s ≡ fileLength l (cellsOf s) (countOf s)
+unfolding wrongLength
+wrong-length-none l s e = differ-none _ _ e
+
+pub stray-pair-none : (n a b : ℕ) → strayPair n a b ≡ false → (a < b) × (b < n)
+stray-pair-none n a b e =
+    let h = or-none (leb n b) (leb b a) (or-none (leb n a) _ e .1) in
+    (leb-false b a (h .1), leb-false n b (h .0))
+
+pub stray-entry-none : (l : Layout) (s : List ℕ) → strayEntry l s ≡ false
+    → All (λ (e : Entry). (e .0 < e .1) × (e .1 < cellsOf s)) (entriesOf l s)
+unfolding strayEntry
+stray-entry-none l s e =
+    all-map (λ (x : Entry). stray-pair-none (cellsOf s) (x .0) (x .1)) (entriesOf l s)
+    (any-none (λ (x : Entry). strayPair (cellsOf s) (x .0) (x .1)) (entriesOf l s) e)
+
+pub unordered-none : (l : Layout) (s : List ℕ) → unordered l s ≡ false
+    → ascendingFrom 0 (map (λ (e : Entry). key (e .0) (e .1)) (entriesOf l s)) ≡ true
+unfolding unordered
+unordered-none l s e = not-false _ e
+
+pub misheaded-none : (kind entryBytes n : ℕ) (s : List ℕ) → misheaded kind entryBytes n s ≡ false
+    → (kindOf s ≡ kind) × (cellsOf s ≡ n) × (zerosOf s ≡ 0) × (length s ≡ 4 + entryBytes * countOf s)
+unfolding misheaded
+misheaded-none kind entryBytes n s e =
+    let a = or-none (not (eqb (kindOf s) kind)) _ (or-none (ltb (length s) 4) _ e .1) in
+    let b = or-none (not (eqb (cellsOf s) n)) _ (a .1) in
+    let c = or-none (not (eqb (zerosOf s) 0)) _ (b .1) in
+    (differ-none _ _ (a .0), differ-none _ _ (b .0), differ-none _ _ (c .0), differ-none _ _ (c .1))
+
+pub bad-pairing-none : (n : ℕ) (s : List ℕ) → badPairing n s ≡ false
+    → (length s ≡ 4 + 3 * countOf s)
+    × All (λ (p : Pair). (p .0 < p .1) × (p .1 < n)) (pairsOf s)
+    × (ascendingFrom 0 (map (λ (p : Pair). p .0) (pairsOf s)) ≡ true)
+unfolding badPairing
+bad-pairing-none n s e =
+    let a = or-none (misheaded 4 3 n s) _ e in
+    let b = or-none (any (badPair n) (readEntries pairing s)) _ (a .1) in (
+      misheaded-none 4 3 n s (a .0) .3,
+      all-values asPair _ (readEntries pairing s)
+          (all-map (λ (r : List ℕ). good r) (readEntries pairing s)
+          (any-none (badPair n) (readEntries pairing s) (b .0))),
+      firsts (readEntries pairing s) ∙ not-false _ (b .1),
+    )
+  where
+    good : (r : List ℕ) → badPair n r ≡ false → (getD r 0 0 < getD r 1 0) × (getD r 1 0 < n)
+    good r h = stray-pair-none n (getD r 0 0) (getD r 1 0) (or-none (strayPair n (getD r 0 0) (getD r 1 0)) _ h .0)
+
+    firsts : (rs : List (List ℕ)) → ascendingFrom 0 (map (λ (p : Pair). p .0) (map asPair rs))
+        ≡ ascendingFrom 0 (map (λ (r : List ℕ). getD r 0 0) rs)
+    firsts rs = ap (ascendingFrom 0) (map-map (λ (p : Pair). p .0) asPair rs)

@@ -1,0 +1,5 @@
+-- The refusals, and the form of lists, slips and pairings.
+pub mod Refusals
+pub mod Answering
+pub mod Checking
+pub mod Loops

@@ -1,0 +1,5 @@
+-- Finding a step on the working graph.
+pub mod Walks
+pub mod Rows
+pub mod Finding
+pub mod Bounds

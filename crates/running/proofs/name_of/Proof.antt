@@ -1,0 +1,44 @@
+-- `name_of` by the cases of the enum.
+use mathlib.Core.Path.{sym, ap, _∙_}
+use Rattle.finding.specs.Finding.{told}
+use Rattle.running.proofs.Runs.{name-leaf, name-ring, name-chain, name-nothing}
+use borrow.Author.Needs.{needs}
+use Rattle.running.proofs.name_of.Statement.{statement}
+use Rattle.running.proofs.name_of.Tie as tie
+
+enum-known-step : tie.Need-enum-known-step
+enum-known-step c = search needs
+
+enum-known-step-2 : tie.Need-enum-known-step-2
+enum-known-step-2 c = search needs
+
+enum-known-step-3 : tie.Need-enum-known-step-3
+enum-known-step-3 c = search needs
+
+enum-told : tie.Need-enum-told
+enum-told c = search needs
+
+returns : tie.Need-returns
+returns c = λ o q. name-leaf _ _ o (sym (ap told (c .before .step .given .1)) ∙ q)
+
+returns-2 : tie.Need-returns-2
+returns-2 c = λ o q. name-ring _ _ o (sym (ap told (c .before .step2 .given .1)) ∙ q)
+
+returns-3 : tie.Need-returns-3
+returns-3 c = λ o q. name-chain _ _ _ o (sym (ap told (c .before .step3 .given .1)) ∙ q)
+
+returns-4 : tie.Need-returns-4
+returns-4 c = λ o q. name-nothing o (sym (ap told (c .enum-told .given .1)) ∙ q)
+
+pub name-of-spec : {M : Type 1} → statement M
+name-of-spec =
+    tie.close
+    (tie.spec
+    enum-known-step
+    enum-known-step-2
+    enum-known-step-3
+    enum-told
+    returns
+    returns-2
+    returns-3
+    returns-4)

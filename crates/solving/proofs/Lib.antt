@@ -1,0 +1,5 @@
+-- The laws of solving what is left.
+pub mod Renaming
+pub mod Gathering
+pub mod Placing
+pub mod Solution

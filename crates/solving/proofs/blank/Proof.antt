@@ -1,0 +1,62 @@
+-- `blank` sets its words one by one: those below i are zero.
+use native.Mathlib.Omega.{arith}
+use borrow.Author.Needs.{needs}
+use Prim.Native.Nat.{_-_, _≤_}
+use Rattle.solving.specs.Gathered.{FrontKept}
+use Rattle.solving.proofs.Gathering.{front-none, front-set, ZeroTo, zero-more}
+use Rattle.solving.proofs.blank.Statement.{statement}
+use Rattle.solving.proofs.blank.Tie as tie
+
+abbrev Inv-loop : tie.InvT-loop
+Inv-loop w2₀ i₀ w2 i = FrontKept w2₀ w2 × ZeroTo i w2 × (7168 ≤ i) × (i ≤ 7324)
+
+abbrev μ-loop : tie.MeasureT-loop
+μ-loop w2₀ i₀ w2 i = 7324 - i
+
+loop-holds : tie.Need-loop-holds Inv-loop μ-loop
+loop-holds c = (front-none, (λ m l. absurd (omega arith)), omega arith, omega arith)
+
+mul-w2 : tie.Need-mul-w2 Inv-loop μ-loop
+mul-w2 c = search needs
+
+slice-write-w2 : tie.Need-slice-write-w2 Inv-loop μ-loop
+slice-write-w2 c = omega (arith, c .before .before .pre, c .before .loop .inv .0 .long, c .loop-test .taken)
+
+add-i : tie.Need-add-i Inv-loop μ-loop
+add-i c = search needs
+
+loop-less : tie.Need-loop-less Inv-loop μ-loop
+loop-less c = search needs
+
+loop-again : tie.Need-loop-again Inv-loop μ-loop
+loop-again c =
+    let l = c .before .loop in
+    let h = l .inv in (
+      front-set (h .0) (l .i) 0 (h .2),
+      zero-more (l .i) (l .w2) (omega (arith, c .before .before .pre, h .0 .long, c .loop-test .taken)) (h .1),
+      omega (arith, h .2),
+      omega (arith, c .loop-test .taken),
+    )
+
+same-length : tie.Need-same-length Inv-loop μ-loop
+same-length c = c .before .loop .inv .0 .long
+
+returns : tie.Need-returns Inv-loop μ-loop
+returns c =
+    let l = c .before .loop in
+    ((λ m b. l .inv .1 m (omega (arith, c .loop-test .left))), l .inv .0)
+
+pub blank-spec : {M : Type 1} → statement M
+blank-spec =
+    tie.close
+    (tie.spec
+    Inv-loop
+    μ-loop
+    loop-holds
+    mul-w2
+    slice-write-w2
+    add-i
+    loop-less
+    loop-again
+    same-length
+    returns)

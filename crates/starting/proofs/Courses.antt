@@ -1,0 +1,160 @@
+-- The course of steps on an accepted list. In order: without more steps it is what the slip's names name
+-- (`course-replay`); the cells of steps that stand; what has passed the list's check (`list-there`); an accepted list
+-- is a graph of its cells (`list-graph`) whose points, with what is carried, have 44 bits after any steps that are
+-- allowed (`left-small`); so the loop may run on it (`run-there`), and what the steps leave is a graph (`left-graph`)
+-- that may be written (`left-there`); they are at most 1,024 (`steps-few`), with cells of 10 bits (`steps-below`).
+-- Assumes nothing.
+use mathlib.Core.Path.{_≡_, refl, ap}
+use mathlib.Core.Bool.{Bool}
+use mathlib.Core.List.{List, [], _∷_, map}
+use mathlib.Core.Option.{Option, some, none}
+use Prim.Native.Nat.{ℕ, zero, suc, _+_, _*_, _^_, _≤_, _<_}
+use native.Mathlib.Omega.{arith}
+use lib.ListN.{length, drop, length-map}
+use Rattle.matching.specs.Lists.{All}
+use Rattle.matching.specs.Pairs.{Points, Each}
+use Rattle.matching.specs.Best.{walk}
+use Rattle.matching.specs.Listed.{Entry}
+use Rattle.matching.specs.Graph.{Graph}
+use Rattle.matching.specs.Steps.{Rule, Step, leaf, ring, chain, apply, name}
+use Rattle.matching.specs.Find.{stepAt}
+use Rattle.matching.specs.Slip.{replay, left, carried}
+use Rattle.matching.proofs.Tests.{Test, pass, fail, ltT}
+use Rattle.matching.proofs.Alls.{all-mem}
+use Rattle.matching.proofs.Entries.{listed-graph}
+use Rattle.matching.proofs.Fits.{Fits, Stands}
+use Rattle.matching.proofs.Exact.{step-graph}
+use Rattle.matching.proofs.Reduce.{replay-fits}
+use Rattle.matching.proofs.Demand.{slip-graph, left-bound, total-fits, no-gain-no-loss}
+use Rattle.cellfile.specs.Fields.{fields, readRecords}
+use Rattle.cellfile.specs.Files.{storeList, asEntry, cellsOf, countOf, entriesOf}
+use Rattle.checks.specs.Refusals.{first, listRows}
+use Rattle.cellfile.proofs.Fields.{length-read-records}
+use Rattle.cellfile.specs.Answers.{answer}
+use Rattle.checks.proofs.Accepted.{list-room, list-accepted as passed, accepted-list}
+use Rattle.slots.specs.Slots.{graphOf}
+use Rattle.starting.specs.Steps.{graphIn}
+use Rattle.running.specs.Course.{course}
+use Rattle.running.specs.Running.{RunThere, After}
+use Rattle.starting.specs.Starting.{ListThere, Loaded}
+use Rattle.running.specs.Pairs.{PairsLeft}
+use Rattle.running.proofs.Listing.{holds-pairs}
+
+-- The step, and the steps that follow it.
+abbrev behind : Step → Option (List Step) → Option (List Step)
+behind s o = elim o [ none ↦ none | some ss ↦ some (s ∷ ss) ]
+
+abbrev onward : Option Step → (Step → Option (List Step)) → Option (List Step)
+onward o rest = elim o [ none ↦ none | some s ↦ behind s (rest s) ]
+
+pub course-replay : (n : ℕ) (w : Points) (rs : List (Rule × ℕ)) → course n w rs 0 ≡ replay n w rs
+course-replay n w [] = refl
+course-replay n w (r ∷ rs) = go (stepAt n w (r .0) (r .1)) (λ s. course-replay n (apply w s) rs)
+  where
+    go : (o : Option Step) → ((s : Step) → course n (apply w s) rs 0 ≡ replay n (apply w s) rs)
+        → onward o (λ s. course n (apply w s) rs 0) ≡ onward o (λ s. replay n (apply w s) rs)
+    go none i = refl
+    go (some s) i = ap (behind s) (i s)
+
+-- ---- the cells of steps
+
+pair-below : {n : ℕ} {w : Points} → Graph n w → (a b : ℕ) → 0 < w a b → b < n
+pair-below {n} g a b p = go (ltT b n)
+  where
+    go : {t : Bool} → Test (b < n) (n ≤ b) t → b < n
+    go (pass l) = l
+    go (fail l) = absurd (omega (arith, g .top a b l))
+
+row-below : {n : ℕ} {w : Points} → Graph n w → (u : ℕ) (inner : List ℕ) (v : ℕ)
+    → Each (λ a b. 0 < w a b) (walk u inner v) → All (λ (c : ℕ). c < n) inner
+row-below g u [] v p = tt
+row-below {n} {w} g u (c ∷ cs) v p = (pair-below g u c (p .0), row-below g c cs v (p .1))
+
+step-below : {n : ℕ} {w : Points} → Graph n w → (s : Step) → Fits w s → name s .1 < n
+step-below g (leaf u v) f = pair-below g u v (f .pair)
+step-below {n} g (ring u z inner) f =
+    all-mem (λ (c : ℕ). c < n) inner (row-below g u inner u (f .0 .live)) z (f .1)
+step-below {n} g (chain u v z inner) f =
+    all-mem (λ (c : ℕ). c < n) inner (row-below g u inner v (f .0 .live)) z (f .1)
+
+stands-below : {n : ℕ} {w : Points} → n ≤ 1024 → Graph n w → (ss : List Step) → Stands w ss
+    → All (λ (s : Step). name s .1 < 1024) ss
+stands-below l g [] f = tt
+stands-below l g (s ∷ ss) f =
+    (omega (arith, step-below g s (f .0)), stands-below l (step-graph g s (f .0)) ss (f .1))
+
+-- ---- an accepted list
+
+-- From the answer of the list's check.
+pub list-there : {list : List ℕ} {n m : ℕ} {w1 w2 : List ℕ}
+    → (0, n ∷ m ∷ []) ≡ answer (first (listRows storeList list)) (cellsOf list ∷ countOf list ∷ [])
+    → 8192 ≤ length w1 → 8192 ≤ length w2 → ListThere list m w1 w2 × (n ≡ cellsOf list)
+list-there {list} e r1 r2 =
+    let a = passed list e in
+    (record { accepted = a .0; count = a .2; room1 = r1; room2 = r2 }, a .1)
+
+points-fit : (m : ℕ) (s : List ℕ)
+    → All (λ (e : Entry). e .2 < 2 ^ 20) (map asEntry (readRecords (storeList .entry) m s))
+unfolding readRecords fields
+points-fit zero s = tt
+points-fit (suc m) s = (omega arith, points-fit m (drop 5 s))
+
+module _ (list : List ℕ) (h : first (listRows storeList list) ≡ 0) where
+  pub list-graph : Graph (cellsOf list) (graphIn list)
+  list-graph = listed-graph (cellsOf list) (entriesOf storeList list) (accepted-list list h .1)
+
+  pub list-few : length (entriesOf storeList list) ≤ 4096
+  list-few =
+      omega (
+        arith,
+        list-room list {m = countOf list} h refl,
+        length-map (readRecords (storeList .entry) (countOf list) (drop 4 list)) asEntry,
+        length-read-records (storeList .entry) (countOf list) (drop 4 list),
+      )
+
+  pub left-small : (rs : List (Rule × ℕ)) (ss : List Step) → replay (cellsOf list) (graphIn list) rs ≡ some ss
+      → (a b : ℕ) → left (graphIn list) ss a b + carried (graphIn list) ss < 17592186044416
+  left-small rs ss allowed a b =
+      omega (
+        arith,
+        left-bound (cellsOf list) (entriesOf storeList list) (accepted-list list h .1) rs ss allowed a b,
+        total-fits 20 (entriesOf storeList list) (points-fit (countOf list) (drop 4 list)) list-few,
+      )
+
+  pub run-there : {n e m : ℕ} {slip w1 w2 : List ℕ} → n ≡ cellsOf list → Loaded list e w1 w2 → m < 8192
+      → 4 + 2 * m ≤ length slip → RunThere n e m slip w1 w2
+  run-there en l c r = record {
+    holds = l .holds;
+    cells = omega (arith, en, accepted-list list h .0);
+    graph = rw (en, l .graph) list-graph;
+    small = rw (en, l .graph) left-small;
+    count = c;
+    slip-room = r;
+  }
+
+  module _ (rs : List (Rule × ℕ)) (ss : List Step) (allowed : replay (cellsOf list) (graphIn list) rs ≡ some ss) where
+    pub left-graph : Graph (cellsOf list) (left (graphIn list) ss)
+    left-graph = slip-graph list-graph ss (replay-fits list-graph rs ss allowed .0)
+
+    pub left-there : {n e t p k : ℕ} {w1 w2 : List ℕ} → n ≡ cellsOf list
+        → After (graphIn list) ss e t p k w1 w2 → PairsLeft n e w1
+    left-there {e = e} {w1 = w1} en a = record {
+      cells = omega (arith, en, accepted-list list h .0);
+      pairs = holds-pairs (a .holds) small;
+      graph = rw (en, a .graph) left-graph;
+      small = small;
+    }
+      where
+        small : (x y : ℕ) → graphOf e w1 x y < 17592186044416
+        small x y = rw (a .graph) (omega (arith, left-small rs ss allowed x y))
+
+    pub steps-few : length ss ≤ 1024
+    steps-few =
+        omega (
+          arith,
+          no-gain-no-loss (cellsOf list) (entriesOf storeList list) (accepted-list list h .1) rs ss allowed .steps,
+          accepted-list list h .0,
+        )
+
+    pub steps-below : All (λ (s : Step). name s .1 < 1024) ss
+    steps-below = stands-below (accepted-list list h .0) list-graph ss (replay-fits list-graph rs ss allowed .0)

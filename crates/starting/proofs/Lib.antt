@@ -1,0 +1,3 @@
+-- The laws of the first part of a call.
+pub mod Courses
+pub mod Starts

@@ -1,0 +1,3 @@
+-- The first part of every call with steps.
+pub mod Steps
+pub mod Starting

@@ -1,0 +1,7 @@
+-- The laws of weighing.
+pub mod Marks
+pub mod Repeated
+pub mod Merge
+pub mod Matched
+pub mod Weights
+pub mod Worked

@@ -1,0 +1,3 @@
+-- Weighing a pairing of a list.
+pub mod Weigh
+pub mod Merging

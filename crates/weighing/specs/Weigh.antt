@@ -1,0 +1,32 @@
+-- Weighing a pairing of the list.
+use Prim.Native.Nat.{ℕ}
+use mathlib.Core.List.{List, [], _∷_, _++_}
+use Rattle.matching.specs.Listed.{joined, points}
+use Rattle.cellfile.specs.Files.{storeList, cellsOf, entriesOf, pairsOf}
+use Rattle.checks.specs.Refusals.{Row, first, fewWords, listRows, badPairing, noPairing}
+use Rattle.cellfile.specs.Answers.{Answer, answer}
+use Rattle.weighing.specs.declared.Weighed.{Weighed}
+use Rattle.weighing.specs.declared.Weighed.the-variants as weighs
+
+-- Refusals 9 and 10 of a pairing. It is for the entries of the list, those of zero points too.
+abbrev pub formRow : List ℕ → List ℕ → Row
+formRow list pairing = (9, badPairing (cellsOf list) pairing)
+
+abbrev pub pairRow : List ℕ → List ℕ → Row
+pairRow list pairing = (10, noPairing (joined (entriesOf storeList list)) (pairsOf pairing))
+
+-- The pairing's points, as the one value of the answer.
+abbrev pub weight : List ℕ → List ℕ → List ℕ
+weight list pairing = points (entriesOf storeList list) (pairsOf pairing) ∷ []
+
+-- What weighing answers for the list, the pairing and the lengths of the work buffers lent.
+abbrev pub weighing : List ℕ → List ℕ → List ℕ → Answer
+weighing list pairing lent = answer (first rows) (weight list pairing)
+  where
+    rows : List Row
+    rows = (1, fewWords lent) ∷ (listRows storeList list ++ (formRow list pairing ∷ pairRow list pairing ∷ []))
+
+-- The number and the values of each case of the answer enum.
+abbrev pub weighed : Weighed → Answer
+weighed (weighs.Refused k) = (k, [])
+weighed (weighs.Points p) = (0, p ∷ [])
