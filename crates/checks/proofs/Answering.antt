@@ -19,8 +19,8 @@ use Rattle.checks.specs.Answering.{Output, lengths, roomRow, Does}
 
 -- ---- outputs that are kept
 
-abbrev pub Kept : List Output → Type 0
-Kept outs = All (λ (o : Output). o .2 ≡ o .1) outs
+abbrev pub Unchanged : List Output → Type 0
+Unchanged outs = All (λ (o : Output). o .2 ≡ o .1) outs
 
 refused-written : (n k v : ℕ) (vs file out : List ℕ) → (k, []) ≡ answer n (v ∷ vs) → out ≡ written k file out
 refused-written zero k v vs file out e = absurd (omega (arith, ap (λ (a : Answer). length (a .1)) e))
@@ -38,7 +38,7 @@ parted rows more outs a e =
     e ∙ ap (λ rs. answer (first rs) (lengths outs)) (sym (append-assoc rows more (roomRow outs ∷ [])))
 
 module _ (rows more : List Row) {outs : List Output} where
-  pub refused : (v : ℕ) (vs : List ℕ) {k : ℕ} → (k, []) ≡ answer (first rows) (v ∷ vs) → Kept outs
+  pub refused : (v : ℕ) (vs : List ℕ) {k : ℕ} → (k, []) ≡ answer (first rows) (v ∷ vs) → Unchanged outs
       → Does (rows ++ more) outs (k, [])
   refused v vs {k} e h = record {
     says = parted rows more outs (k, []) (layer-refused rows (more ++ (roomRow outs ∷ [])) (lengths outs) k v vs e);
@@ -74,7 +74,7 @@ none-short [] h = refl
 none-short (o ∷ outs) h = rw (le-ltb (length (o .1)) (length (o .0)) (h .0)) (none-short outs (h .1))
 
 pub no-room : (xs : List Output) (o : Output) (ys : List Output) → length (o .1) < length (o .0)
-    → Kept (xs ++ o ∷ ys) → Does [] (xs ++ o ∷ ys) (12, [])
+    → Unchanged (xs ++ o ∷ ys) → Does [] (xs ++ o ∷ ys) (12, [])
 no-room xs o ys l h = record { says = rw (some-short xs o ys l); writes = h }
 
 pub rooms : (outs : List Output) → All (λ (o : Output). length (o .0) ≤ length (o .1)) outs

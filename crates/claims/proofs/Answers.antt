@@ -23,7 +23,7 @@ use Rattle.checks.proofs.Layers.{callRows, call-sound, call-refused}
 use Rattle.weighing.proofs.Weights.{weigh-sound}
 use Rattle.starting.specs.Steps.{graphIn, stepsOn, stand, reduceSteps}
 use Rattle.reduction.specs.Calls.{replayShort}
-use Rattle.starting.proofs.Courses.{list-graph}
+use Rattle.starting.proofs.OnList.{list-graph}
 use Rattle.lifting.specs.Calls.{graphAfter, bySteps, slipRows, liftFile, solveFile, pairingFile, pairing}
 use Rattle.claims.specs.Demand.{AcceptedList, Allowed}
 use Rattle.claims.specs.Claims.{leftCells, reduceSlip, reduceShort, Wrote, ZeroTells, Eight, RefusalsTell}

@@ -26,7 +26,7 @@ use Rattle.checks.proofs.Written.{list-passes, list-cells, list-written}
 use Rattle.starting.specs.Steps.{graphIn, reduceSteps}
 use Rattle.reduction.specs.Calls.{replayShort, reducing}
 use Rattle.checks.proofs.Accepted.{accepted-list}
-use Rattle.starting.proofs.Courses.{list-graph}
+use Rattle.starting.proofs.OnList.{list-graph}
 use Rattle.reduction.proofs.Reducing.{reduce-allowed}
 use Rattle.lifting.specs.Calls.{pairFile, liftFile}
 use Rattle.lifting.proofs.Filing.{file-read, file-pairing, file-formed, file-longest, all-entries}

@@ -22,7 +22,7 @@ use Rattle.checks.proofs.Layers.{call-passes}
 use Rattle.starting.specs.Steps.{graphIn, stand}
 use Rattle.reduction.specs.Calls.{replayShort, replaying}
 use Rattle.checks.proofs.Accepted.{accepted-list}
-use Rattle.starting.proofs.Courses.{list-graph}
+use Rattle.starting.proofs.OnList.{list-graph}
 use Rattle.lifting.specs.Calls.{graphAfter, liftedFile, bySteps, slipRows, liftFile, lifting}
 use Rattle.matching.specs.Solve.{solution}
 use Rattle.solving.proofs.Solution.{solution-heaviest}

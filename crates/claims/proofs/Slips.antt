@@ -33,7 +33,7 @@ use Rattle.checks.proofs.Written.{cells-read, entries-written, steps-read, slip
 use Rattle.starting.specs.Steps.{graphIn, stepsOn}
 use Rattle.reduction.specs.Calls.{shortFile, slipFile, replayShort}
 use Rattle.checks.proofs.Accepted.{accepted-list}
-use Rattle.starting.proofs.Courses.{list-graph, list-few, left-small, left-graph, steps-few, steps-below}
+use Rattle.starting.proofs.OnList.{list-graph, list-few, left-small, left-graph, steps-few, steps-below}
 use Rattle.claims.specs.Demand.{AcceptedList, shortOf, PairingOf, HeaviestOf, Names, Allowed}
 
 -- ---- what is written is read again

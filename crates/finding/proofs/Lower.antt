@@ -1,7 +1,7 @@
 -- What the row of z shows where no ring and no chain is named by z. In order: the cells on the row of a step (`On`,
 -- `OnAll`), which z is (`named-on`), and so is a partner of a cell on it that has degree two (`partner-on`); a lower cell
 -- of degree two on it (`Lower`) and what it rules out (`lower-chain`, `lower-two`, `lower-other`); a row whose two ways
--- meet (`Passed`) and what that rules out (`met-chain`, `met-lowest`); the loop that walks both ways in turns (`Stands`,
+-- meet (`Passed`) and what that rules out (`met-chain`, `met-lowest`); the loop that walks both ways in turns (`WayAt`,
 -- `Turns`). Assumes nothing.
 use mathlib.Core.Path.{_≡_, refl, sym, ap, _∙_}
 use mathlib.Core.Logic.{_⊎_, inl, inr, _≢_, ⊎-map}
@@ -216,15 +216,15 @@ module _ {w : Points} (g : Graph 1024 w) {z last at next-last next-at seen : ℕ
 -- ---- the loop that walks both ways
 
 -- A way stands at the cell `at` of the row, where it came from `last` by the slot.
-pub record Stands (e : ℕ) (w1 : List ℕ) (r : Rule) (z last at slot : ℕ) : Type 0 where
+pub record WayAt (e : ℕ) (w1 : List ℕ) (r : Rule) (z last at slot : ℕ) : Type 0 where
   pub joins : Joins e w1 slot last at
   pub below : at < 1024
   pub on : OnAll (graphOf e w1) r z at
 
 -- Both ways, the lower cell that was seen, or z, and the cells that were passed.
 pub record Turns (e : ℕ) (w1 : List ℕ) (r : Rule) (z last at slot next-last next-at next-slot seen : ℕ) : Type 0 where
-  pub here : Stands e w1 r z last at slot
-  pub next : Stands e w1 r z next-last next-at next-slot
+  pub here : WayAt e w1 r z last at slot
+  pub next : WayAt e w1 r z next-last next-at next-slot
   pub lower : seen ≢ z → Lower (graphOf e w1) r z seen
   pub past : List ℕ
   pub passed : Passed (graphOf e w1) z last at next-last next-at seen past
@@ -235,7 +235,7 @@ module _ {e : ℕ} {w1 w2 : List ℕ} {r : Rule} (h : Holds e w1 w2) (d : r ≢ 
 
   -- the partner of a cell of degree two on the row
   stands : {z x y slot : ℕ} → OnAll w r z x → degree 1024 w x ≡ 2 → Joins e w1 slot x y → y < 1024
-      → Stands e w1 r z x y slot
+      → WayAt e w1 r z x y slot
   stands {z} {x} {y} {slot} on two j l = record {
     joins = j;
     below = l;

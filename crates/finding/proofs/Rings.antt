@@ -1,7 +1,7 @@
 -- Where no ring is named after a step. In order: where each cell that a step changes has at most one pair after it, a ring
--- after the step was one before it (`Kept`, `keep-ring`); so it is of the leaf step at a cell whose partner is a leaf too
+-- after the step was one before it (`Stays`, `keep-ring`); so it is of the leaf step at a cell whose partner is a leaf too
 -- (`leaf-kept`), and of the ring step of a ring of cells of degree two (`ring-kept`); by what is told of a step
--- (`rings-leaf`, `rings-ring`, `rings-none`). Assumes nothing.
+-- (`rings-leaf`, `rings-ring`). Assumes nothing.
 use mathlib.Core.Path.{_≡_, refl, sym, ap, subst, _∙_}
 use mathlib.Core.Logic.{_⊎_, inl, inr, _≢_, ⊎-elim}
 use mathlib.Core.Bool.{Bool, true, false, cond}
@@ -38,10 +38,10 @@ use Rattle.finding.proofs.Quiet.{leaf-else, ring-else}
 -- ---- rings that stay
 
 -- Each cell has at most one pair in w′, or the points that it has in w.
-abbrev Kept : Points → Points → Type 0
-Kept w w′ = (x : ℕ) → (degree 1024 w′ x ≤ 1) ⊎ ((y : ℕ) → w′ x y ≡ w x y)
+abbrev Stays : Points → Points → Type 0
+Stays w w′ = (x : ℕ) → (degree 1024 w′ x ≤ 1) ⊎ ((y : ℕ) → w′ x y ≡ w x y)
 
-module _ {w w′ : Points} (g : Graph 1024 w′) (kept : Kept w w′) where
+module _ {w w′ : Points} (g : Graph 1024 w′) (kept : Stays w w′) where
   at-more : (x : ℕ) → 1 < degree 1024 w′ x → (y : ℕ) → w′ x y ≡ w x y
   at-more x l = ⊎-elim (λ k. absurd (omega arith)) (λ k. k) (kept x)
 
@@ -84,7 +84,7 @@ module _ {w w′ : Points} (g : Graph 1024 w′) (kept : Kept w w′) where
 -- ---- the two steps
 
 module _ {w : Points} (g : Graph 1024 w) where
-  leaf-kept : {u v : ℕ} → IsLeaf 1024 w u v → degree 1024 w u ≡ 1 → Kept w (leafed w u v)
+  leaf-kept : {u v : ℕ} → IsLeaf 1024 w u v → degree 1024 w u ≡ 1 → Stays w (leafed w u v)
   unfolding leafed
   leaf-kept {u} {v} l one x = go (eqT x v) (eqT x u)
     where
@@ -116,7 +116,7 @@ module _ {w : Points} (g : Graph 1024 w) where
       go (fail d) (pass q) = inl (rw q (partners-few after u v at-u))
       go (fail d) (fail k) = inr (leaf-else g l x k d (g .turned x u ∙ alone x d))
 
-  ring-kept : {u z : ℕ} {inner : List ℕ} → IsRing 1024 w u z inner → degree 1024 w u ≡ 2 → Kept w (ringed w u z inner)
+  ring-kept : {u z : ℕ} {inner : List ℕ} → IsRing 1024 w u z inner → degree 1024 w u ≡ 2 → Stays w (ringed w u z inner)
   unfolding ringed
   ring-kept {u} {z} {inner} r two x = go (isT (mem x inner)) (eqT x u)
     where
@@ -196,7 +196,3 @@ module _ {w : Points} {x : declared.Step} {low : ℕ} where
           λ a b y h. omega (arith, f refl a y (keep-step after same a y h))
       go (leaf u′ v) rule c t p f = absurd (omega (arith, ap (λ (y : Answer). y .0) t))
       go (chain u′ v z′ inner) rule c t p f = absurd (omega (arith, ap (λ (y : Answer). y .0) t))
-
--- below 0 there is no cell
-pub rings-none : (w : Points) (x : declared.Step) (low : ℕ) → RingQuieted w x low 0
-rings-none w x low s t q p g f k c l = absurd (omega arith)

@@ -132,9 +132,6 @@ module _ {e : ℕ} {w1 w2 : List ℕ} (h : Holds e w1 w2) where
   }
 
   module _ {r : Rule} {c k : ℕ} (n : Unmet e w1 r c (suc k)) where
-    pub unmet-in : k < e
-    unmet-in = omega (arith, n .top)
-
     -- slot k shows none either
     pub unmet-on : StepAtSlot e w1 r c k none → {i : ℕ} → LastSlot w1 c k i → Unmet e w1 r c i
     unmet-on miss {i} l = record {

@@ -13,7 +13,7 @@ use Rattle.matching.specs.Lists.{mem}
 use Rattle.matching.specs.Pairs.{Points}
 use Rattle.matching.specs.Graph.{Graph, partners, degree}
 use Rattle.matching.specs.Shapes.{first, last}
-use Rattle.matching.specs.Find.{Row, onward}
+use Rattle.matching.specs.Find.{ReadRow, onward}
 use Rattle.matching.proofs.Tests.{Test, pass, fail, ltT, fails}
 use Rattle.matching.proofs.Members.{no-mem, mem-on, mem-head, mem-more}
 use Rattle.matching.proofs.Partners.{partners-two}
@@ -24,7 +24,7 @@ use Rattle.slots.specs.declared.read.Other.{Other}
 use Rattle.finding.specs.Walks.{stretch, stretchAt, Stops}
 
 -- A walk from `from` at the cell `at`.
-pub record Walked (n : ℕ) (w : Points) (low from at : ℕ) (r : Row) : Type 0 where
+pub record Walked (n : ℕ) (w : Points) (low from at : ℕ) (r : ReadRow) : Type 0 where
   pub starts : first (r .1) (r .0) ≡ at
   pub run : Run n w from (r .0) (r .1)
   pub high : (c : ℕ) → mem c (r .0) ≡ true → low ≤ c
@@ -94,7 +94,7 @@ module _ {n : ℕ} {w : Points} (g : Graph n w) (low : ℕ) where
   run-stretch zero p (c ∷ cs) v r high end l = absurd (omega arith)
   run-stretch (suc k) p (c ∷ cs) v r high end l =
       stretch-passes k p c cs v r (high c (mem-head c c cs refl))
-      ∙ ap (λ (x : Row). (c ∷ x .0, x .1))
+      ∙ ap (λ (x : ReadRow). (c ∷ x .0, x .1))
       (run-stretch k c cs v (r .1) (λ x m. high x (mem-on x c cs m)) end (omega arith))
 
   pub stretch-through : (k p : ℕ) (cs : List ℕ) (v : ℕ) → Run n w p cs v → ((c : ℕ) → mem c cs ≡ true → low ≤ c)
@@ -139,8 +139,8 @@ module _ {e : ℕ} {w1 : List ℕ} {low from at last′ end slot left : ℕ}
   pub walk-stops : stretch left ps low last′ end ≡ ([], end)
       → Stops e w1 from (stretchAt (graphOf e w1) low from at) (record { end = end; last = last′; slot = slot })
   walk-stops q = record {
-    end = sym (h .ends ∙ ap (λ (r : Row). r .1) q);
-    last = sym (h .lasts ∙ ap (λ (r : Row). last last′ (r .0)) q);
+    end = sym (h .ends ∙ ap (λ (r : ReadRow). r .1) q);
+    last = sym (h .lasts ∙ ap (λ (r : ReadRow). last last′ (r .0)) q);
     joins = h .joins;
     below = h .below;
   }
@@ -165,8 +165,8 @@ module _ {e : ℕ} {w1 : List ℕ} {low from at last′ end slot left : ℕ}
           ≡ (end ∷ stretch left′ ps low end (s .partner) .0, stretch left′ ps low end (s .partner) .1) =
           rw (z, q, fails (ltT end low) (λ l. omega arith), n .partner a b q) in
           record {
-            ends = h .ends ∙ ap (λ (r : Row). r .1) here;
-            lasts = h .lasts ∙ ap (λ (r : Row). last last′ (r .0)) here;
+            ends = h .ends ∙ ap (λ (r : ReadRow). r .1) here;
+            lasts = h .lasts ∙ ap (λ (r : ReadRow). last last′ (r .0)) here;
             joins = n .joins;
             below = n .below;
           }

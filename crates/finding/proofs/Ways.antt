@@ -15,7 +15,7 @@ use Rattle.matching.specs.Pairs.{Points}
 use Rattle.matching.specs.Graph.{Graph, degree}
 use Rattle.matching.specs.Steps.{Rule, by-leaf, by-ring, by-chain, Step, leaf, ring, chain}
 use Rattle.matching.specs.Shapes.{IsRow, Lowest, IsRing, IsChain, IsStep, first, last}
-use Rattle.matching.specs.Find.{Row}
+use Rattle.matching.specs.Find.{ReadRow}
 use Rattle.matching.proofs.Tests.{Test, pass, fail, isT, eqT, fails}
 use Rattle.matching.proofs.Members.{no-mem, mem-on, mem-head, mem-apart, mem-more, distinct-cons}
 use Rattle.matching.proofs.Upto.{distinct-length}
@@ -28,7 +28,7 @@ use Rattle.finding.proofs.Turned.{turn, turn-length, turn-first, turn-m
 
 -- The walk out of z at f; where it leads, and the cell before; the walk back from there.
 module _ (w : Points) (z f : ℕ) where
-  abbrev pub outOf : Row
+  abbrev pub outOf : ReadRow
   outOf = stretchAt w (suc z) z f
 
   abbrev pub endOf : ℕ
@@ -37,7 +37,7 @@ module _ (w : Points) (z f : ℕ) where
   abbrev pub nearEnd : ℕ
   nearEnd = last z (outOf .0)
 
-  abbrev pub backOf : Row
+  abbrev pub backOf : ReadRow
   backOf = stretchAt w z endOf nearEnd
 
 module _ {w : Points} (g : Graph 1024 w) where
@@ -49,8 +49,8 @@ module _ {w : Points} (g : Graph 1024 w) where
     first u (b .passed),
     b .way,
     record {
-      end = ap (λ (x : Row). x .1) out;
-      before = ap (λ (x : Row). last z (x .0)) out ∙ b .starts;
+      end = ap (λ (x : ReadRow). x .1) out;
+      before = ap (λ (x : ReadRow). last z (x .0)) out ∙ b .starts;
       row = run-stretch g z 1024 u inner v (is-run g r) (low .least) bv
           (distinct-length 1024 inner (r .apart) (inner-below g r));
     },
@@ -84,7 +84,7 @@ module _ {w : Points} (g : Graph 1024 w) where
   -- ---- what the walks show
 
   module _ {z f : ℕ} (two : degree 1024 w z ≡ 2) (way : 0 < w z f) where
-    abbrev a : Row
+    abbrev a : ReadRow
     a = outOf w z f
 
     abbrev u : ℕ
@@ -93,7 +93,7 @@ module _ {w : Points} (g : Graph 1024 w) where
     abbrev p : ℕ
     p = nearEnd w z f
 
-    abbrev r : Row
+    abbrev r : ReadRow
     r = backOf w z f
 
     out : Walked 1024 w (suc z) z f a
@@ -196,8 +196,8 @@ ring-none w z f miss (ring u z′ inner) p m = go u inner (rw (p .0) at (p .1)) 
     go u inner r m =
         let k = met-walks m in
         miss (λ q. mem-apart z u inner (r .low .here) (r .row .first-off) (sym q ∙ k .0)) (
-          ap (λ (x : Row). x .1) (k .2) ∙ sym (k .0),
-          let q = ap₂ (λ x (y : Row). last x (y .0)) (k .0) (k .2) in omega (arith, q, k .1, r .towards),
+          ap (λ (x : ReadRow). x .1) (k .2) ∙ sym (k .0),
+          let q = ap₂ (λ x (y : ReadRow). last x (y .0)) (k .0) (k .2) in omega (arith, q, k .1, r .towards),
           rw (k .0) (turned (r .at)),
         )
       where
@@ -220,11 +220,11 @@ chain-none w z f miss (chain u v z′ inner) p m = go u v inner (rw (p .0) at (p
     go u v inner r m =
         let k = met-walks m in
         miss (λ q. mem-apart z u inner (r .low .here) (r .row .first-off) (sym q ∙ k .0)) (
-          let q = ap (λ (x : Row). x .1) (k .2) in omega (arith, q, k .0, r .ends),
+          let q = ap (λ (x : ReadRow). x .1) (k .2) in omega (arith, q, k .0, r .ends),
           λ e. ends-apart inner (r .row .apart) (r .row .more)
-              (sym (k .1) ∙ e ∙ ap₂ (λ x (y : Row). last x (y .0)) (k .0) (k .2)),
+              (sym (k .1) ∙ e ∙ ap₂ (λ x (y : ReadRow). last x (y .0)) (k .0) (k .2)),
           rw (k .0) (r .first-end),
-          λ e. r .last-end (ap (λ (x : Row). degree 1024 w (x .1)) (sym (k .2)) ∙ e),
+          λ e. r .last-end (ap (λ (x : ReadRow). degree 1024 w (x .1)) (sym (k .2)) ∙ e),
         )
       where
         ends-apart : (cs : List ℕ) → distinct cs ≡ true → 1 < length cs → first v cs ≡ last u cs → ⊥

@@ -26,7 +26,7 @@ use Rattle.matching.proofs.Put.{pair-apart}
 use Rattle.matching.proofs.Find.{first-leaf}
 use Rattle.matching.proofs.More.{graph-to, degree-more}
 use Rattle.matching.proofs.Reduce.{reduce-append}
-use Rattle.matching.proofs.Course.{left-append, carried-append}
+use Rattle.matching.proofs.Behind.{left-append, carried-append}
 use Rattle.slots.specs.Slots.{lessAll}
 use Rattle.slots.proofs.Leaving.{only-pair}
 use Rattle.finding.specs.Bounds.{Quiet}

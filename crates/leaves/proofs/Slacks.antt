@@ -17,11 +17,11 @@ use Rattle.slots.specs.declared.read.Other.{Other}
 use Rattle.slots.proofs.Graphs.{joins-points}
 use Rattle.slots.proofs.Scanning.{slot-joins, joins-turned, joins-some, joins-has, slots-on}
 use Rattle.finding.proofs.Scans.{joins-same}
-use Rattle.leaves.specs.Runs.{Kept, Slack, Due}
+use Rattle.leaves.specs.Runs.{KeptPoints, Slack, Due}
 
 -- a slot whose other cell is a leaf
 pub kept-leaf : {e : ℕ} {w1 w2 : List ℕ} → Holds e w1 w2 → {u i f r : ℕ} → Joins e w1 i u f
-    → degree 1024 (graphOf e w1) f ≡ 1 → Kept e w1 u i r
+    → degree 1024 (graphOf e w1) f ≡ 1 → KeptPoints e w1 u i r
 kept-leaf h j one f x d = absurd (d (rw (← joins-same h j x) one))
 
 -- the only pair of c is with u
@@ -39,7 +39,7 @@ pub record Slacks (e : ℕ) (w1 : List ℕ) (u least most i : ℕ) : Type 0 wher
   pub top : i ≤ e
   pub has : (k : ℕ) → i ≡ suc k → touches u (lowOf w1 k) (highOf w1 k) ≡ true
   pub bound : least ≤ 17592186044416
-  pub past : (j : ℕ) → i ≤ j → Kept e w1 u j least
+  pub past : (j : ℕ) → i ≤ j → KeptPoints e w1 u j least
   pub stays : (y : ℕ) × (most ≤ graphOf e w1 u y)
 
 -- a live slot of u
@@ -60,13 +60,13 @@ module _ {e : ℕ} {w1 w2 : List ℕ} (h : Holds e w1 w2) {u : ℕ} where
   }
 
   pub slacks-on : {least most k : ℕ} → Slacks e w1 u least most (suc k)
-      → {q least′ : ℕ} → Kept e w1 u k q → least′ ≡ min least q → {i : ℕ} → LastSlot w1 u k i
+      → {q least′ : ℕ} → KeptPoints e w1 u k q → least′ ≡ min least q → {i : ℕ} → LastSlot w1 u k i
       → {most′ : ℕ} → (y : ℕ) × (most′ ≤ graphOf e w1 u y) → Slacks e w1 u least′ most′ i
   slacks-on {least} {most} {k} s {q} {least′} here a {i} l y = record {
     top = omega (arith, l .low, s .top);
     has = l .at;
     bound = omega (arith, s .bound);
-    past = slots-on l (λ j. Kept e w1 u j least′) (λ j o f x d. clash (joins-has x) o)
+    past = slots-on l (λ j. KeptPoints e w1 u j least′) (λ j o f x d. clash (joins-has x) o)
         (λ f x d. omega (arith, here f x d)) (λ j m f x d. omega (arith, s .past j (omega arith) f x d));
     stays = y;
   }

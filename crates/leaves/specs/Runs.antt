@@ -20,8 +20,8 @@ abbrev pub FirstLeaf : ℕ → Points → ℕ → Type 0
 FirstLeaf n w r = Quiet r w × (r < n → degree 1024 w r ≡ 1)
 
 -- r is not above the points of slot i, where it joins u with a cell that is no leaf.
-abbrev pub Kept : ℕ → List ℕ → ℕ → ℕ → ℕ → Type 0
-Kept e w1 u i r = (f : ℕ) → Joins e w1 i u f → degree 1024 (graphOf e w1) f ≢ 1 → r ≤ getD w1 i 0
+abbrev pub KeptPoints : ℕ → List ℕ → ℕ → ℕ → ℕ → Type 0
+KeptPoints e w1 u i r = (f : ℕ) → Joins e w1 i u f → degree 1024 (graphOf e w1) f ≢ 1 → r ≤ getD w1 i 0
 
 -- Where the pairs at u lose less than r, only leaves lose theirs, and some pair stays.
 pub record Slack (w : Points) (u r : ℕ) : Type 0 where
@@ -35,7 +35,7 @@ Due w u c r =
     ((degree 1024 w c ≢ 1) × (r ≡ 0)) ⊎ (((partners 1024 w c ≡ u ∷ []) × (r ≡ w u c)) ⊎ (r ≡ 17592186044416))
 
 -- What a run at u from the cell c on asks: no cell below c is a leaf, and there is room for its words.
-pub record RunThere (n e u c t k most : ℕ) (w1 w2 : List ℕ) : Type 0 where
+pub record LeafRunThere (n e u c t k most : ℕ) (w1 w2 : List ℕ) : Type 0 where
   pub holds : Holds e w1 w2
   pub cells : n ≤ 1024
   pub graph : Graph n (graphOf e w1)

@@ -15,7 +15,7 @@ ghost use Rattle.matching.specs.Graph.{Graph};
 ghost use Rattle.slots.specs.Slots.{Holds, graphOf, lowOf, highOf};
 ghost use Rattle.finding.specs.Bounds.{Quiet};
 ghost use Rattle.taking.specs.Trail.{closing};
-ghost use Rattle.leaves.specs.Runs.{FirstLeaf, Kept, Slack, Due, RunThere, Owes, Taken};
+ghost use Rattle.leaves.specs.Runs.{FirstLeaf, KeptPoints, Slack, Due, LeafRunThere, Owes, Taken};
 
 // More than any points.
 const ABOVE_ALL: u64 = 17592186044416;
@@ -48,7 +48,7 @@ fn first_leaf(w1: &[u64], w2: &[u64], e: usize, n: usize, low: usize) -> usize
 fn kept(w1: &[u64], w2: &[u64], e: usize, u: usize, i: usize) -> u64
     requires { ⌜ (Holds e (now w1) (now w2)) × (i < e)
         × (touches u (lowOf (now w1) i) (highOf (now w1) i) ≡ true) ⌝ }
-    ensures { λ r. ⌜ Kept e (now (w1 .entry)) u i r ⌝ }
+    ensures { λ r. ⌜ KeptPoints e (now (w1 .entry)) u i r ⌝ }
 {
     let points = w1[i];
     if points == 0 {
@@ -133,7 +133,7 @@ fn take_leaves(
     k: usize,
     most: usize,
 ) -> Owed
-    requires { ⌜ RunThere n e u c t k most (now w1) (now w2) ⌝ }
+    requires { ⌜ LeafRunThere n e u c t k most (now w1) (now w2) ⌝ }
     ensures { λ r. ⌜ Owes n e u t k most (now (w1 .entry)) (now (w2 .entry)) (now (w2 .exit)) r ⌝ }
 {
     let room = slack(w1, w2, e, u);
@@ -185,7 +185,7 @@ fn run_at(
     k: usize,
     most: usize,
 ) -> LeafRun
-    requires { ⌜ RunThere n e u c t k most (now w1) (now w2) ⌝ }
+    requires { ⌜ LeafRunThere n e u c t k most (now w1) (now w2) ⌝ }
     ensures { λ r. ⌜ Taken n e t k most (now (w1 .entry)) (now (w2 .entry)) (now (w1 .exit)) (now (w2 .exit)) r ⌝ }
 {
     let owed = take_leaves(w1, w2, e, n, u, c, t, k, most);

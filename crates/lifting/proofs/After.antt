@@ -21,7 +21,7 @@ use Rattle.starting.specs.Steps.{graphIn}
 use Rattle.running.specs.Running.{After}
 use Rattle.taking.specs.Trail.{Small}
 use Rattle.checks.proofs.Accepted.{accepted-list}
-use Rattle.starting.proofs.Courses.{list-graph, left-small}
+use Rattle.starting.proofs.OnList.{list-graph, left-small}
 use Rattle.taking.proofs.Trail.{trail-room}
 use Rattle.partners.specs.Back.{Mates}
 use Rattle.partners.specs.Table.{TrailKept}

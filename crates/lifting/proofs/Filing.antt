@@ -29,7 +29,7 @@ use Rattle.cellfile.proofs.RoundTrip.{length-file}
 use Rattle.checks.proofs.Written.{pairs-read, pairing-passes}
 use Rattle.starting.specs.Steps.{graphIn, reduceSteps}
 use Rattle.checks.proofs.Accepted.{accepted-list}
-use Rattle.starting.proofs.Courses.{list-graph, left-graph}
+use Rattle.starting.proofs.OnList.{list-graph, left-graph}
 use Rattle.reduction.proofs.Reducing.{reduce-allowed}
 use Rattle.partners.proofs.Tabled.{pairing-half}
 use Rattle.lifting.specs.Calls.{pairFile, graphAfter, pairingFile}

@@ -31,7 +31,7 @@ use Rattle.checks.specs.Answering.{Does}
 use Rattle.starting.specs.Starting.{slipStart, StartDone}
 use Rattle.checks.proofs.Answering.{refused, passed}
 use Rattle.running.proofs.Listing.{holds-pairs}
-use Rattle.starting.proofs.Courses.{list-graph}
+use Rattle.starting.proofs.OnList.{list-graph}
 use Rattle.lifting.specs.Calls.{pairFile, liftFile, liftedFile, graphAfter}
 use Rattle.partners.specs.Table.{Entered}
 use Rattle.lifting.specs.Ending.{ReturnThere, Returns}

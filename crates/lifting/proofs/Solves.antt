@@ -20,7 +20,7 @@ use Rattle.starting.specs.Steps.{stepsOn}
 use Rattle.checks.specs.Answering.{Does}
 use Rattle.starting.specs.Starting.{slipStart, StartDone}
 use Rattle.checks.proofs.Answering.{refused, passed}
-use Rattle.starting.proofs.Courses.{left-there}
+use Rattle.starting.proofs.OnList.{left-there}
 use Rattle.lifting.specs.Calls.{pairFile, graphAfter, solvedFile, solveFile, bySteps}
 use Rattle.matching.specs.Solve.{solution}
 use Rattle.solving.specs.Left.{LeftThere, SolvedIn}

@@ -12,18 +12,18 @@ use borrow.Author.Tests.{lt-ltb}
 use Rattle.matching.specs.Lists.{All}
 use Rattle.matching.specs.Pairs.{Pair, Points, ι, sum, Each, hit, like}
 use Rattle.matching.specs.Pairing.{Once, Pairing}
-use Rattle.matching.specs.Listed.{insert, filed}
+use Rattle.matching.specs.Listed.{filedIn, filed}
 use Rattle.matching.proofs.Tests.{Test, pass, fail, ltT}
 use Rattle.matching.proofs.Pairs.{Same, Apart, sameT}
 use Rattle.matching.proofs.Alls.{each-is-all, Has, all-at, Ascends, ascends-same}
 use Rattle.matching.proofs.Sums.{each-map, each-zero, hit-turned, hit-some, like-turned, like-self}
 
-insert-sum : (f : Points) (e : Pair) (m : List Pair) → sum f (insert e m) ≡ f (e .0) (e .1) + sum f m
+insert-sum : (f : Points) (e : Pair) (m : List Pair) → sum f (filedIn e m) ≡ f (e .0) (e .1) + sum f m
 insert-sum f e [] = refl
 insert-sum f e (x ∷ m) = go (ltb (e .0) (x .0)) (insert-sum f e m)
   where
-    go : (t : Bool) → sum f (insert e m) ≡ f (e .0) (e .1) + sum f m
-        → sum f (cond t (e ∷ x ∷ m) (x ∷ insert e m)) ≡ f (e .0) (e .1) + (f (x .0) (x .1) + sum f m)
+    go : (t : Bool) → sum f (filedIn e m) ≡ f (e .0) (e .1) + sum f m
+        → sum f (cond t (e ∷ x ∷ m) (x ∷ filedIn e m)) ≡ f (e .0) (e .1) + (f (x .0) (x .1) + sum f m)
     go true i = refl
     go false i = omega arith
 
@@ -45,11 +45,11 @@ filed-sum f t (e ∷ m) = omega (
   filed-sum f t m,
 )
 
-insert-each : (P : ℕ → ℕ → Type 0) (e : Pair) (m : List Pair) → P (e .0) (e .1) → Each P m → Each P (insert e m)
+insert-each : (P : ℕ → ℕ → Type 0) (e : Pair) (m : List Pair) → P (e .0) (e .1) → Each P m → Each P (filedIn e m)
 insert-each P e [] h p = (h, tt)
 insert-each P e (x ∷ m) h p = go (ltb (e .0) (x .0)) (insert-each P e m h (p .1))
   where
-    go : (t : Bool) → Each P (insert e m) → Each P (cond t (e ∷ x ∷ m) (x ∷ insert e m))
+    go : (t : Bool) → Each P (filedIn e m) → Each P (cond t (e ∷ x ∷ m) (x ∷ filedIn e m))
     go true i = (h, p)
     go false i = (p .0, i)
 
@@ -74,12 +74,12 @@ InOrder [] = Unit {0}
 InOrder (e ∷ m) = (e .0 < e .1) × (Each (λ a b. e .0 < a) m × InOrder m)
 
 insert-in-order : (e : Pair) (m : List Pair) → e .0 < e .1 → Each (λ a b. e .0 ≢ a) m → InOrder m
-    → InOrder (insert e m)
+    → InOrder (filedIn e m)
 insert-in-order e [] l n o = (l, (tt, tt))
 insert-in-order e (f ∷ m) l n o = go (ltT (e .0) (f .0)) (insert-in-order e m l (n .1) (o .1 .1))
   where
-    go : {t : Bool} → Test (e .0 < f .0) (f .0 ≤ e .0) t → InOrder (insert e m)
-        → InOrder (cond t (e ∷ f ∷ m) (f ∷ insert e m))
+    go : {t : Bool} → Test (e .0 < f .0) (f .0 ≤ e .0) t → InOrder (filedIn e m)
+        → InOrder (cond t (e ∷ f ∷ m) (f ∷ filedIn e m))
     go (pass k) i = (l, ((k, each-map (λ a b q. omega arith) m (o .1 .0)), o))
     go (fail k) i = (o .0, (insert-each (λ a b. f .0 < a) e m (omega (arith, n .0)) (o .1 .0), i))
 
@@ -148,7 +148,7 @@ filed-same m k o p d e h =
     (λ a b. omega (arith, h a b, filed-sum (like a b) (like-turned a b) m, filed-sum (like a b) (like-turned a b) k))
 
 -- What is in order stays as it is.
-insert-front : (e : Pair) (m : List Pair) → Each (λ a b. e .0 < a) m → insert e m ≡ e ∷ m
+insert-front : (e : Pair) (m : List Pair) → Each (λ a b. e .0 < a) m → filedIn e m ≡ e ∷ m
 insert-front e [] p = refl
 insert-front e (f ∷ m) p = rw (lt-ltb (e .0) (f .0) (p .0))
 

@@ -16,7 +16,7 @@ use Rattle.matching.specs.Pairs.{Points}
 use Rattle.matching.specs.Graph.{Graph, partners, degree}
 use Rattle.matching.specs.Steps.{Rule, by-leaf, by-ring, by-chain, Step, leaf, ring, chain, name}
 use Rattle.matching.specs.Shapes.{IsRow, Lowest, IsLeaf, IsRing, IsChain, IsStep, first, last, NoLater}
-use Rattle.matching.specs.Find.{Row, row, lowest, isLowest, two, provided, leafOf, ringOf, chainOf, orElse}
+use Rattle.matching.specs.Find.{ReadRow, row, lowest, isLowest, two, provided, leafOf, ringOf, chainOf, orElse}
 use Rattle.matching.specs.Find.{search, stepAt, firstStep}
 use Rattle.matching.proofs.Tests.{Test, pass, fail, isT, eqT, ltT, notT, andT, mapT, fails}
 use Rattle.matching.proofs.Members.{no-mem, mem-on, mem-head, mem-more, mem-one, clash}
@@ -47,8 +47,8 @@ either {P} {Q} (fail n) (fail m) = fail neither
     neither (inl p) = n p
     neither (inr q) = m q
 
-below : (a b : ℕ) → Decides (a < b) (ltb a b)
-below a b = mapT (λ h. h) (λ h k. omega arith) (ltT a b)
+decides-below : (a b : ℕ) → Decides (a < b) (ltb a b)
+decides-below a b = mapT (λ h. h) (λ h k. omega arith) (ltT a b)
 
 not-two : (n : ℕ) (w : Points) (c : ℕ) → Decides (degree n w c ≢ 2) (not (two n w c))
 not-two n w c = mapT (λ d. d) (λ e d. d e) (notT (eqT (degree n w c) 2))
@@ -84,7 +84,7 @@ provided-where : {P : Type 0} {t : Bool} {x : Step} → Decides P t → Where P 
 provided-where (pass p) = record { there = λ s h. (p, cc); found = λ h. refl }
 provided-where (fail n) = record { there = λ s h. none-some refl h; found = λ h. absurd (n h) }
 
-module _ (n : ℕ) (w : Points) (z u f : ℕ) (r : Row) where
+module _ (n : ℕ) (w : Points) (z u f : ℕ) (r : ReadRow) where
   abbrev RingAt : Type 0
   RingAt =
       (0 < w u f) × ((r .1 ≡ u) × ((1 < length (r .0)) × (Lowest z (r .0)
@@ -92,8 +92,8 @@ module _ (n : ℕ) (w : Points) (z u f : ℕ) (r : Row) where
 
   ring-where : Where RingAt (ring u z (r .0)) (ringOf n w z u f r)
   ring-where =
-      provided-where (both (below 0 (w u f)) (both (eqT (r .1) u) (both (below 1 (length (r .0)))
-      (both (lowestT z (r .0)) (both (either (not-two n w u) (below u z)) (below f (last u (r .0))))))))
+      provided-where (both (decides-below 0 (w u f)) (both (eqT (r .1) u) (both (decides-below 1 (length (r .0)))
+      (both (lowestT z (r .0)) (both (either (not-two n w u) (decides-below u z)) (decides-below f (last u (r .0))))))))
 
   abbrev ChainAt : Type 0
   ChainAt =
@@ -102,7 +102,7 @@ module _ (n : ℕ) (w : Points) (z u f : ℕ) (r : Row) where
 
   chain-where : Where ChainAt (chain u (r .1) z (r .0)) (chainOf n w z u f r)
   chain-where =
-      provided-where (both (below 0 (w u f)) (both (below u (r .1)) (both (below 1 (length (r .0)))
+      provided-where (both (decides-below 0 (w u f)) (both (decides-below u (r .1)) (both (decides-below 1 (length (r .0)))
       (both (lowestT z (r .0)) (both (not-two n w u) (not-two n w (r .1)))))))
 
 -- The ring and the chain at z that leave u at f.
@@ -198,7 +198,7 @@ module _ {n : ℕ} {w : Points} (g : Graph n w) where
   ring-there : (z u f : ℕ) (s : Step) → ringFrom n w z u f ≡ some s → IsStep n w by-ring z s
   ring-there z u f s h = go (ring-where n w z u f r .there s h)
     where
-      r : Row
+      r : ReadRow
       r = row n (partners n w) u u f
 
       go : RingAt n w z u f r × (ring u z (r .0) ≡ s) → IsStep n w by-ring z s
@@ -217,7 +217,7 @@ module _ {n : ℕ} {w : Points} (g : Graph n w) where
   chain-there : (z u f : ℕ) (s : Step) → chainFrom n w z u f ≡ some s → IsStep n w by-chain z s
   chain-there z u f s h = go (chain-where n w z u f r .there s h)
     where
-      r : Row
+      r : ReadRow
       r = row n (partners n w) u u f
 
       go : ChainAt n w z u f r × (chain u (r .1) z (r .0) ≡ s) → IsStep n w by-chain z s

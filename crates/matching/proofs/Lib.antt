@@ -38,7 +38,7 @@ pub mod Find
 pub mod More
 -- Slips, reduce, and demand 3.
 pub mod Reduce
-pub mod Course
+pub mod Behind
 pub mod Demand
 -- Solving.
 pub mod Solve

@@ -94,9 +94,6 @@ partners-ascending (suc n) w c = go (ltb 0 (w c n)) (partners-ascending n w c)
     go true up = ascending-end (partners n w c) n up (λ y h. holds (partnerT n w c y) h .0)
     go false up = rw append-nil up
 
-pub partners-distinct : (n : ℕ) (w : Points) (c : ℕ) → distinct (partners n w c) ≡ true
-partners-distinct n w c = ascending-distinct (partners n w c) (partners-ascending n w c)
-
 -- ---- how many
 
 -- The cell c has two partners, p and q.

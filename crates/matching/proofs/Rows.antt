@@ -15,7 +15,7 @@ use Rattle.matching.specs.Pairs.{Pair, Points, Each}
 use Rattle.matching.specs.Graph.{Graph, partners, degree}
 use Rattle.matching.specs.Best.{walk}
 use Rattle.matching.specs.Shapes.{IsRow, first, last}
-use Rattle.matching.specs.Find.{Row, onward, row}
+use Rattle.matching.specs.Find.{ReadRow, onward, row}
 use Rattle.matching.proofs.Tests.{Test, pass, fail, isT, eqT, passes, fails}
 use Rattle.matching.proofs.Members.{no-mem, mem-on, mem-head, mem-cases, mem-more, mem-one, mem-not, mem-apart}
 use Rattle.matching.proofs.Members.{clash, distinct-cons}
@@ -35,7 +35,7 @@ abbrev pub AtEnd : ℕ → List ℕ → ℕ → ℕ → ℕ → Type 0
 AtEnd p cs v c e = ((p ≡ e) × (first v cs ≡ c)) ⊎ ((v ≡ e) × (last p cs ≡ c))
 
 -- A row read from `from` at the cell `at`.
-pub record Read (n : ℕ) (w : Points) (stop from at : ℕ) (r : Row) : Type 0 where
+pub record Read (n : ℕ) (w : Points) (stop from at : ℕ) (r : ReadRow) : Type 0 where
   pub starts : first (r .1) (r .0) ≡ at
   pub run : Run n w from (r .0) (r .1)
   pub off : mem stop (r .0) ≡ false
@@ -215,7 +215,7 @@ module _ {n : ℕ} {w : Points} (g : Graph n w) where
 
   -- ---- rows in the description's words
 
-  pub row-is : (u f : ℕ) (r : Row) → Read n w u u f r → 1 < length (r .0) → mem (r .1) (r .0) ≡ false
+  pub row-is : (u f : ℕ) (r : ReadRow) → Read n w u u f r → 1 < length (r .0) → mem (r .1) (r .0) ≡ false
       → IsRow n w u (r .0) (r .1)
   row-is u f r i more off = record {
     live = run-live u (r .0) (r .1) (omega arith) (i .run);
@@ -316,6 +316,6 @@ module _ {n : ℕ} {w : Points} (g : Graph n w) where
   pub rows-same : {u v u′ v′ : ℕ} {inner inner′ : List ℕ} → IsRow n w u inner v → Ends n w u v → IsRow n w u′ inner′ v′
       → Ends n w u′ v′ → u ≡ u′ → first v inner ≡ first v′ inner′ → (inner ≡ inner′) × (v ≡ v′)
   rows-same {u} {v} {u′} {v′} {inner} {inner′} r e r′ e′ p q =
-      let x : _≡_ {A = Row} (inner, v) (inner′, v′) =
+      let x : _≡_ {A = ReadRow} (inner, v) (inner′, v′) =
       sym (row-of r e) ∙ ap₂ (λ c f. row n (partners n w) c c f) p q ∙ row-of r′ e′
-      in (ap (λ (t : Row). t .0) x, ap (λ (t : Row). t .1) x)
+      in (ap (λ (t : ReadRow). t .0) x, ap (λ (t : ReadRow). t .1) x)

@@ -1,6 +1,6 @@
--- Solving: the recursion over sets of cells gives the best of the set's pairs (`solve-best`) and so the points of a
--- heaviest pairing of them (`solve-points`). In order: a set less one cell; pairs of a cell that must stay free may be
--- left out (`best-without`); the pairs of a set less one cell; the law. Assumes nothing.
+-- Solving: the recursion over sets of cells gives the best of the set's pairs (`solve-best`). In order: a set
+-- less one cell; pairs of a cell that must stay free may be left out (`best-without`); the pairs of a set less one cell;
+-- the law. Assumes nothing.
 use mathlib.Core.Path.{_≡_, refl, sym, ap, ap₂, _∙_}
 use mathlib.Core.Logic.{_⊎_, inl, inr, _≢_}
 use mathlib.Core.Bool.{Bool, true, false, not, cond, _&&_, _||_}
@@ -13,7 +13,7 @@ use borrow.Author.Tests.{eq-eqb}
 use Rattle.matching.specs.Lists.{mem, distinct, All}
 use Rattle.matching.specs.Pairs.{Pair, Points, sum, Each, keep, touches}
 use Rattle.matching.specs.Best.{barred, H, best}
-use Rattle.matching.specs.Solve.{pairsWith, pairsOf, solved, less, tries, solve}
+use Rattle.matching.specs.Solve.{pairsWith, pairsAmong, solved, less, tries, solve}
 use Rattle.matching.proofs.Tests.{Test, pass, fail, isT, eqT, fails}
 use Rattle.matching.proofs.Members.{or-left, or-right, mem-on, mem-head, mem-apart, mem-past, distinct-cons}
 use Rattle.matching.proofs.Alls.{all-map, all-members, Ascends}
@@ -148,15 +148,15 @@ module _ (w : Points) where
       go false true = rw append-nil
       go false false = refl
 
-  keep-of : (p : ℕ) (cs : List ℕ) → keep (off p) (pairsOf w cs) ≡ pairsOf w (less p cs)
-  unfolding pairsOf
+  keep-of : (p : ℕ) (cs : List ℕ) → keep (off p) (pairsAmong w cs) ≡ pairsAmong w (less p cs)
+  unfolding pairsAmong
   keep-of p [] = refl
   keep-of p (c ∷ cs) =
-      keep-append (off p) (pairsWith w c cs) (pairsOf w cs) ∙ ap₂ (λ x y. x ++ y) (keep-with p c cs) (keep-of p cs)
+      keep-append (off p) (pairsWith w c cs) (pairsAmong w cs) ∙ ap₂ (λ x y. x ++ y) (keep-with p c cs) (keep-of p cs)
       ∙ go (eqb c p)
     where
-      go : (t : Bool) → cond t [] (pairsWith w c (less p cs)) ++ pairsOf w (less p cs)
-          ≡ pairsOf w (cond t (less p cs) (c ∷ less p cs))
+      go : (t : Bool) → cond t [] (pairsWith w c (less p cs)) ++ pairsAmong w (less p cs)
+          ≡ pairsAmong w (cond t (less p cs) (c ∷ less p cs))
       go true = refl
       go false = refl
 
@@ -170,20 +170,20 @@ module _ (w : Points) where
       go true = ((hc, h .0), tt)
       go false = tt
 
-  of-each : (P : ℕ → Type 0) (cs : List ℕ) → All P cs → Each (λ a b. P a × P b) (pairsOf w cs)
-  unfolding pairsOf
+  of-each : (P : ℕ → Type 0) (cs : List ℕ) → All P cs → Each (λ a b. P a × P b) (pairsAmong w cs)
+  unfolding pairsAmong
   of-each P [] h = tt
   of-each P (c ∷ cs) h =
-      each-append (λ a b. P a × P b) (pairsWith w c cs) (pairsOf w cs) (with-each P c cs (h .0) (h .1))
+      each-append (λ a b. P a × P b) (pairsWith w c cs) (pairsAmong w cs) (with-each P c cs (h .0) (h .1))
       (of-each P cs (h .1))
 
   -- with c, p free: the best of the set less p
   best-less : (c p : ℕ) (cs : List ℕ) → mem c cs ≡ false
-      → best false w (c ∷ p ∷ []) (pairsOf w cs) ≡ solved w (less p cs)
+      → best false w (c ∷ p ∷ []) (pairsAmong w cs) ≡ solved w (less p cs)
   best-less c p cs n =
-      best-without false w p (pairsOf w cs) (c ∷ p ∷ []) (mem-on p c (p ∷ []) (mem-head p p [] refl)) .0
+      best-without false w p (pairsAmong w cs) (c ∷ p ∷ []) (mem-on p c (p ∷ []) (mem-head p p [] refl)) .0
       ∙ ap (best false w (c ∷ p ∷ [])) (keep-of p cs)
-      ∙ best-ext false w (pairsOf w (less p cs)) (c ∷ p ∷ []) [] (of-each Off (less p cs) (all-map at (less p cs)
+      ∙ best-ext false w (pairsAmong w (less p cs)) (c ∷ p ∷ []) [] (of-each Off (less p cs) (all-map at (less p cs)
       (all-members (less p cs))))
     where
       Off : ℕ → Type 0
@@ -226,19 +226,15 @@ module _ (w : Points) where
         (λ q h. r q (mem-on q p ps h) ∙ sym (skip p q es)))
 
 pub solve-best : (k : ℕ) (w : Points) (cs : List ℕ) → length cs ≤ k → distinct cs ≡ true → solve k w cs ≡ solved w cs
-unfolding pairsOf
+unfolding pairsAmong
 solve-best zero w [] l d = sym (best-nil false w [])
 solve-best zero w (c ∷ cs) l d = (let z : ⊥ = omega arith in absurd z)
 solve-best (suc k) w [] l d = sym (best-nil false w [])
 solve-best (suc k) w (c ∷ cs) l d =
-    tries-best w c (λ p. solve k w (less p cs)) cs (pairsOf w cs) (solve k w cs)
+    tries-best w c (λ p. solve k w (less p cs)) cs (pairsAmong w cs) (solve k w cs)
     (solve-best k w cs (omega arith) (q .1))
     (λ p h. solve-best k w (less p cs) (omega (arith, less-length p cs)) (less-distinct p cs (q .1))
     ∙ sym (best-less w c p cs (q .0)))
   where
     q : (mem c cs ≡ false) × (distinct cs ≡ true)
     q = distinct-cons c cs d
-
-pub solve-points : (k : ℕ) (w : Points) (cs : List ℕ) → length cs ≤ k → distinct cs ≡ true
-    → sum w (solve k w cs) ≡ H w [] (pairsOf w cs)
-solve-points k w cs l d = ap (sum w) (solve-best k w cs l d) ∙ best-H false w [] (pairsOf w cs)

@@ -9,15 +9,15 @@ use Rattle.matching.specs.Graph.{partners, put, dropped}
 use Rattle.matching.specs.Best.{H, best, tie}
 use Rattle.matching.specs.Steps.{leafed, ringed, chained}
 use Rattle.matching.specs.Find.{stepAt, firstStep}
-use Rattle.matching.specs.Worked.{Row, outcome, rows}
+use Rattle.matching.specs.Worked.{WorkedRow, outcome, rows}
 use Rattle.matching.proofs.Alls.{map-agree}
 
 -- the test
-pub table : map (λ (r : Row). outcome (r .0)) rows ≡ map (λ (r : Row). r .1) rows
+pub table : map (λ (r : WorkedRow). outcome (r .0)) rows ≡ map (λ (r : WorkedRow). r .1) rows
 unfolding rows outcome isPairing joined listed partners put dropped H best tie leafed ringed chained stepAt firstStep
     hit like
 table = refl
 
 -- what it says of each row
-pub each-row : All (λ (r : Row). outcome (r .0) ≡ r .1) rows
-each-row = map-agree (λ (r : Row). outcome (r .0)) (λ (r : Row). r .1) rows table
+pub each-row : All (λ (r : WorkedRow). outcome (r .0) ≡ r .1) rows
+each-row = map-agree (λ (r : WorkedRow). outcome (r .0)) (λ (r : WorkedRow). r .1) rows table

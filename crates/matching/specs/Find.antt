@@ -14,17 +14,17 @@ use Rattle.matching.specs.Shapes.{last}
 
 -- The row from `from` at the cell `at`: the cells of degree two met, and the cell behind them, which is `stop` or not
 -- of degree two.
-abbrev pub Row : Type 0
-Row = List ℕ × ℕ
+abbrev pub ReadRow : Type 0
+ReadRow = List ℕ × ℕ
 
-abbrev pub onward : Bool → List ℕ → ℕ → ℕ → (ℕ → Row) → Row
+abbrev pub onward : Bool → List ℕ → ℕ → ℕ → (ℕ → ReadRow) → ReadRow
 onward true ps from at go = ([], at)
 onward false [] from at go = ([], at)
 onward false (a ∷ []) from at go = ([], at)
 onward false (a ∷ b ∷ []) from at go = let r = go (cond (eqb a from) b a) in (at ∷ r .0, r .1)
 onward false (a ∷ b ∷ c ∷ ps) from at go = ([], at)
 
-abbrev pub row : ℕ → (ℕ → List ℕ) → ℕ → ℕ → ℕ → Row
+abbrev pub row : ℕ → (ℕ → List ℕ) → ℕ → ℕ → ℕ → ReadRow
 row zero ps stop from at = ([], at)
 row (suc k) ps stop from at = onward (eqb at stop) (ps at) from at (λ next. row k ps stop at next)
 
@@ -52,12 +52,12 @@ leafOf (u ∷ []) v = some (leaf u v)
 leafOf (u ∷ c ∷ ps) v = none
 
 -- The ring or the chain at z that leaves u at its partner f, by the row read from there.
-abbrev pub ringOf : ℕ → Points → ℕ → ℕ → ℕ → Row → Option Step
+abbrev pub ringOf : ℕ → Points → ℕ → ℕ → ℕ → ReadRow → Option Step
 ringOf n w z u f r =
     provided (ltb 0 (w u f) && (eqb (r .1) u && (ltb 1 (length (r .0)) && (isLowest z (r .0)
     && ((not (two n w u) || ltb u z) && ltb f (last u (r .0))))))) (ring u z (r .0))
 
-abbrev pub chainOf : ℕ → Points → ℕ → ℕ → ℕ → Row → Option Step
+abbrev pub chainOf : ℕ → Points → ℕ → ℕ → ℕ → ReadRow → Option Step
 chainOf n w z u f r =
     provided (ltb 0 (w u f) && (ltb u (r .1) && (ltb 1 (length (r .0)) && (isLowest z (r .0)
     && (not (two n w u) && not (two n w (r .1))))))) (chain u (r .1) z (r .0))

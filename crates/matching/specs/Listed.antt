@@ -53,10 +53,10 @@ abbrev pub shortList : ℕ → Points → List Entry
 shortList n w = shortBelow n w n
 
 -- A pairing as its file has it: the lower cell first, ascending.
-abbrev pub insert : Pair → List Pair → List Pair
-insert e [] = e ∷ []
-insert e (f ∷ m) = cond (ltb (e .0) (f .0)) (e ∷ f ∷ m) (f ∷ insert e m)
+abbrev pub filedIn : Pair → List Pair → List Pair
+filedIn e [] = e ∷ []
+filedIn e (f ∷ m) = cond (ltb (e .0) (f .0)) (e ∷ f ∷ m) (f ∷ filedIn e m)
 
 abbrev pub filed : List Pair → List Pair
 filed [] = []
-filed (e ∷ m) = insert (min (e .0) (e .1), max (e .0) (e .1)) (filed m)
+filed (e ∷ m) = filedIn (min (e .0) (e .1), max (e .0) (e .1)) (filed m)

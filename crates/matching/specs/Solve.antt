@@ -14,12 +14,12 @@ abbrev pub pairsWith : Points → ℕ → List ℕ → List Pair
 pairsWith w c [] = []
 pairsWith w c (p ∷ ps) = pairsWith w c ps ++ cond (ltb 0 (w c p)) ((c, p) ∷ []) []
 
-unfoldable pub pairsOf : Points → List ℕ → List Pair
-pairsOf w [] = []
-pairsOf w (c ∷ cs) = pairsWith w c cs ++ pairsOf w cs
+unfoldable pub pairsAmong : Points → List ℕ → List Pair
+pairsAmong w [] = []
+pairsAmong w (c ∷ cs) = pairsWith w c cs ++ pairsAmong w cs
 
 abbrev pub solved : Points → List ℕ → List Pair
-solved w cs = best false w [] (pairsOf w cs)
+solved w cs = best false w [] (pairsAmong w cs)
 
 -- 'The heaviest of a set of cells is worked out from that of smaller sets': its lowest cell unpaired, or with each
 -- partner in turn, taken where that is heavier than what is had so far. k bounds the number of cells.

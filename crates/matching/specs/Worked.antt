@@ -57,24 +57,24 @@ outcome (lifting n l s m) =
 outcome (weighing l m) = cond (isPairing (joined l) m) (weighed (points l m)) (refused 10)
 
 -- A row of the table.
-abbrev pub Row : Type 0
-Row = Case × Outcome
+abbrev pub WorkedRow : Type 0
+WorkedRow = Case × Outcome
 
 -- Reduce's own slip: its steps, what each carries and what they carry together; nothing is left; the pairing lifted.
-abbrev pub reduced : ℕ → List Entry → List (Rule × ℕ) → List ℕ → ℕ → List Pair → ℕ → Row
+abbrev pub reduced : ℕ → List Entry → List (Rule × ℕ) → List ℕ → ℕ → List Pair → ℕ → WorkedRow
 reduced n l s ks k m p = (
   lifting n l none [],
   made (record { slip = s; carries = ks; carried = k; short = []; lifted = m; points = p }),
 )
 
 -- A slip of one step and a pairing of the short list.
-abbrev pub lifted : ℕ → List Entry → List (Rule × ℕ) → List Pair → ℕ → List Entry → List Pair → ℕ → Row
+abbrev pub lifted : ℕ → List Entry → List (Rule × ℕ) → List Pair → ℕ → List Entry → List Pair → ℕ → WorkedRow
 lifted n l s m k short up p = (
   lifting n l (some s) m,
   made (record { slip = s; carries = k ∷ []; carried = k; short = short; lifted = up; points = p }),
 )
 
-abbrev pub not-allowed : ℕ → List Entry → List (Rule × ℕ) → Row
+abbrev pub not-allowed : ℕ → List Entry → List (Rule × ℕ) → WorkedRow
 not-allowed n l s = (lifting n l (some s) [], refused 8)
 
 -- The lists of the rows.
@@ -94,7 +94,7 @@ abbrev pub chain1 : List (Rule × ℕ)
 chain1 = (by-chain, 1) ∷ []
 
 -- The worked lists, in their order; then more of the rules' words.
-unfoldable pub rows : List Row
+unfoldable pub rows : List WorkedRow
 rows =
     reduced 4 (path 10) ((by-leaf, 0) ∷ (by-leaf, 2) ∷ []) (10 ∷ 10 ∷ []) 20 ((0, 1) ∷ (2, 3) ∷ []) 20
     ∷ lifted 4 (path 10) chain1 ((0, 3) ∷ []) 1 short3 ((0, 1) ∷ (2, 3) ∷ []) 20

@@ -18,7 +18,7 @@ use Rattle.matching.specs.Find.{stepAt}
 use Rattle.matching.specs.Slip.{replay, left, lift}
 use Rattle.matching.proofs.Find.{step-is, step-fits}
 use Rattle.matching.proofs.Exact.{step-lifted}
-use Rattle.matching.proofs.Course.{left-append}
+use Rattle.matching.proofs.Behind.{left-append}
 use Rattle.matching.proofs.Reduce.{replay-fits, replay-more}
 use Rattle.matching.proofs.Demand.{slip-graph}
 use Rattle.taking.specs.Trail.{stepWords, trail}

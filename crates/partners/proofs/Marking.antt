@@ -16,7 +16,7 @@ use Rattle.matching.specs.Best.{walk}
 use Rattle.matching.proofs.Sums.{sum-append}
 use Rattle.rows.specs.Row.{rowWords, marked}
 use Rattle.partners.specs.Table.{TrailKept}
-use Rattle.partners.specs.Unwinding.{joined, TableOf, cellOf, startOf, pairsOf, wordsAt, PutThere}
+use Rattle.partners.specs.Unwinding.{joined, TableOf, cellOf, startOf, rowPairs, wordsAt, PutThere}
 use Rattle.partners.proofs.Mating.{joined-aside, mates-join}
 
 -- ---- the pairs of a row by its words
@@ -27,7 +27,7 @@ row-start w u [] v p = omega (arith, p .0)
 row-start w u (c ∷ cs) v p = omega (arith, p .0)
 
 pub row-pairs : (w : Points) (u : ℕ) (cs : List ℕ) (v : ℕ) → Each (λ a b. w a b < 17592186044416) (walk u cs v)
-    → pairsOf (rowWords w u cs v) v ≡ walk u cs v
+    → rowPairs (rowWords w u cs v) v ≡ walk u cs v
 row-pairs w u [] v p = ap (λ x. (x, v) ∷ []) (row-start w u [] v p)
 row-pairs w u (c ∷ cs) v p =
     ap₂ (λ (e : Pair) es. e ∷ es)
@@ -48,13 +48,13 @@ words-same a k w2 w2′ h l r s =
 
 -- ---- the loop
 
-each-drop : (P : ℕ → ℕ → Type 0) (i : ℕ) (ws : List ℕ) (v : ℕ) → Each P (pairsOf ws v) → Each P (pairsOf (drop i ws) v)
+each-drop : (P : ℕ → ℕ → Type 0) (i : ℕ) (ws : List ℕ) (v : ℕ) → Each P (rowPairs ws v) → Each P (rowPairs (drop i ws) v)
 each-drop P zero ws v p = p
 each-drop P (suc i) [] v p = p
 each-drop P (suc i) (x ∷ ws) v p = each-drop P i ws v (p .1)
 
 sum-drop : (f : Points) (i : ℕ) (marks ws : List ℕ) (v : ℕ)
-    → sum f (marked (drop i marks) (pairsOf (drop i ws) v)) ≤ sum f (marked marks (pairsOf ws v))
+    → sum f (marked (drop i marks) (rowPairs (drop i ws) v)) ≤ sum f (marked marks (rowPairs ws v))
 sum-drop f zero marks ws v = omega arith
 sum-drop f (suc i) [] ws v = omega arith
 sum-drop f (suc i) (m ∷ marks) [] v = none (drop i marks)
@@ -67,9 +67,9 @@ sum-drop f (suc i) (m ∷ marks) (x ∷ ws) v = go (eqb m 1) (sum-drop f i marks
     e : Pair
     e = (cellOf x, startOf ws v)
 
-    go : (t : Bool) → sum f (marked (drop i marks) (pairsOf (drop i ws) v)) ≤ sum f (marked marks (pairsOf ws v))
-        → sum f (marked (drop i marks) (pairsOf (drop i ws) v))
-        ≤ sum f (cond t (e ∷ marked marks (pairsOf ws v)) (marked marks (pairsOf ws v)))
+    go : (t : Bool) → sum f (marked (drop i marks) (rowPairs (drop i ws) v)) ≤ sum f (marked marks (rowPairs ws v))
+        → sum f (marked (drop i marks) (rowPairs (drop i ws) v))
+        ≤ sum f (cond t (e ∷ marked marks (rowPairs ws v)) (marked marks (rowPairs ws v)))
     go true h = omega arith
     go false h = h
 
@@ -79,7 +79,7 @@ pub record Putting {a v : ℕ} {marks w2₀ : List ℕ} (p : PutThere a v marks 
   pub same : length w2 ≡ length w2₀
   pub start : to ≡ startOf (drop j (wordsAt a marks w2₀)) v
   pub table : TableOf w2₀ w2
-      (marked (drop j marks) (pairsOf (drop j (wordsAt a marks w2₀)) v) ++ p .pairs)
+      (marked (drop j marks) (rowPairs (drop j (wordsAt a marks w2₀)) v) ++ p .pairs)
 
 module _ {a v : ℕ} {marks w2₀ : List ℕ} (p : PutThere a v marks w2₀) where
   abbrev ws : List ℕ
@@ -89,7 +89,7 @@ module _ {a v : ℕ} {marks w2₀ : List ℕ} (p : PutThere a v marks w2₀) whe
   m = p .pairs
 
   abbrev from-place : ℕ → List Pair
-  from-place j = marked (drop j marks) (pairsOf (drop j ws) v)
+  from-place j = marked (drop j marks) (rowPairs (drop j ws) v)
 
   ws-length : length ws ≡ length marks
   ws-length =
@@ -115,7 +115,7 @@ module _ {a v : ℕ} {marks w2₀ : List ℕ} (p : PutThere a v marks w2₀) whe
         arith,
         p .once c,
         sum-append (hit c) (from-place i) m,
-        sum-append (hit c) (marked marks (pairsOf ws v)) m,
+        sum-append (hit c) (marked marks (rowPairs ws v)) m,
         sum-drop (hit c) i marks ws v,
       )
 
@@ -133,10 +133,10 @@ module _ {a v : ℕ} {marks w2₀ : List ℕ} (p : PutThere a v marks w2₀) whe
       here : from ≡ cellOf (getD ws i 0)
       here = e ∙ ap cellOf (sym word)
 
-      pairs-at : pairsOf (drop i ws) v ≡ (from, to) ∷ pairsOf (drop (suc i) ws) v
+      pairs-at : rowPairs (drop i ws) v ≡ (from, to) ∷ rowPairs (drop (suc i) ws) v
       pairs-at =
-          ap (λ xs. pairsOf xs v) words-at
-          ∙ ap₂ (λ (x y : ℕ). (x, y) ∷ pairsOf (drop (suc i) ws) v) (sym here) (sym (h .start))
+          ap (λ xs. rowPairs xs v) words-at
+          ∙ ap₂ (λ (x y : ℕ). (x, y) ∷ rowPairs (drop (suc i) ws) v) (sym here) (sym (h .start))
 
       below-at : (from < 1024) × (to < 1024)
       below-at =
@@ -188,5 +188,5 @@ module _ {a v : ℕ} {marks w2₀ : List ℕ} (p : PutThere a v marks w2₀) whe
     put-more = more-at (j - 1) to w2 earlier e
 
   pub put-all : {j to : ℕ} {w2 : List ℕ} → Putting p j to w2 → j ≡ 0
-      → TableOf w2₀ w2 (marked marks (pairsOf ws v) ++ m)
+      → TableOf w2₀ w2 (marked marks (rowPairs ws v) ++ m)
   put-all {j} {to} {w2} h z = subst (λ k. TableOf w2₀ w2 (from-place k ++ m)) z (h .table)

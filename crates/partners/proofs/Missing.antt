@@ -129,9 +129,9 @@ module _ {n : ℕ} {w : Points} {file : List ℕ} {k r : ℕ} {w1 w2 : List ℕ}
 -- ---- the merge from places i and j on
 
 -- a word before the first pair is passed
-below : (v : ℕ) (vs : List ℕ) (p : ℕ) (ps : List ℕ) → ltb p v ≡ false → eqb v p ≡ false
+absent-passed : (v : ℕ) (vs : List ℕ) (p : ℕ) (ps : List ℕ) → ltb p v ≡ false → eqb v p ≡ false
     → absent (v ∷ vs) (p ∷ ps) ≡ absent vs (p ∷ ps)
-below v vs p ps a b = rw (a, b)
+absent-passed v vs p ps a b = rw (a, b)
 
 module _ (w1 other : List ℕ) (r k : ℕ) where
   abbrev pub absentFrom : ℕ → ℕ → Bool
@@ -183,7 +183,7 @@ module _ (w1 other : List ℕ) (r k : ℕ) where
           pub absent-below : (have ≡ want → ⊥) → absentFrom i j ≡ absentFrom (i + 1) j
           absent-below s =
               rw (next, from-next (pairing .entry) other 4 k j more)
-              (below have (map wordKey (drop (i + 1) (take r w1)))
+              (absent-passed have (map wordKey (drop (i + 1) (take r w1)))
               (pairKey (asPair (readRecord (pairing .entry) (drop (4 + 3 * j) other))))
               (map pairKey (map asPair (from (pairing .entry) other 4 k (j + 1))))
               (rw (← q .a, ← q .b) (le-ltb want have h)) (rw (← q .a, ← q .b) (ne-eqb have want s)))

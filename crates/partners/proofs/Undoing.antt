@@ -24,8 +24,8 @@ use Rattle.matching.proofs.Find.{is-fits}
 use Rattle.matching.proofs.Exact.{step-lifted}
 use Rattle.rows.specs.Row.{rowWords, RowOf, unmarked, Blank, marked, less, RowBest}
 use Rattle.rows.proofs.Parts.{length-row}
-use Rattle.partners.specs.Unwinding.{joined, TableOf, pairsOf, wordsAt, PutThere, ChainFreed, RingFreed, StepBack}
-use Rattle.partners.specs.Unwinding.{LeafBack, RingBack, ChainBack}
+use Rattle.partners.specs.Unwinding.{joined, TableOf, rowPairs, wordsAt, PutThere, ChainFreed, RingFreed}
+use Rattle.partners.specs.Unwinding.{StepBack, LeafBack, RingBack, ChainBack}
 use Rattle.partners.specs.Back.{Mates}
 use Rattle.partners.specs.Table.{TrailKept}
 use Rattle.partners.specs.declared.back.Ends.{Ends}
@@ -140,15 +140,15 @@ module _ {a : ℕ} {marks w2 : List ℕ} {w : Points} {s : Step} {m : List Pair}
 
     module _ (marks′ : List ℕ) (as-many : length marks′ ≡ length marks)
         (best : marked marks′ (walk u inner v) ≡ added w s m) where
-      row-is : pairsOf (wordsAt a marks′ w2a) v ≡ walk u inner v
+      row-is : rowPairs (wordsAt a marks′ w2a) v ≡ walk u inner v
       row-is =
-          ap (λ (ws : List ℕ). pairsOf ws v)
+          ap (λ (ws : List ℕ). rowPairs ws v)
           (ap (λ (k : ℕ). take k (drop a w2a)) as-many
           ∙ words-same a (length marks) w2 w2a kept (b .on-trail) (b .back .room2) same
           ∙ b .words)
           ∙ row-pairs w u inner v (each-all (b .back .small) (walk u inner v))
 
-      put-is : marked marks′ (pairsOf (wordsAt a marks′ w2a) v) ++ keep (stays w s) m ≡ undo w s m
+      put-is : marked marks′ (rowPairs (wordsAt a marks′ w2a) v) ++ keep (stays w s) m ≡ undo w s m
       put-is =
           ap (λ (es : List Pair). es ++ keep (stays w s) m) (ap (marked marks′) row-is ∙ best)
 
@@ -163,7 +163,7 @@ module _ {a : ℕ} {marks w2 : List ℕ} {w : Points} {s : Step} {m : List Pair}
       }
 
       put-back : {w2b : List ℕ}
-          → TableOf w2a w2b (marked marks′ (pairsOf (wordsAt a marks′ w2a) v) ++ keep (stays w s) m)
+          → TableOf w2a w2b (marked marks′ (rowPairs (wordsAt a marks′ w2a) v) ++ keep (stays w s) m)
           → TableOf w2 w2b (undo w s m)
       put-back {w2b} t = record {
         mates = subst (Mates w2b) put-is (t .mates);
@@ -173,7 +173,7 @@ module _ {a : ℕ} {marks w2 : List ℕ} {w : Points} {s : Step} {m : List Pair}
 -- The marked pairs are put.
 abbrev pub Put : ℕ → ℕ → (marks w2a w2b : List ℕ) → Type 0
 Put a v marks w2a w2b =
-    (p : PutThere a v marks w2a) → TableOf w2a w2b (marked marks (pairsOf (wordsAt a marks w2a) v) ++ p .pairs)
+    (p : PutThere a v marks w2a) → TableOf w2a w2b (marked marks (rowPairs (wordsAt a marks w2a) v) ++ p .pairs)
 
 -- ---- ring
 

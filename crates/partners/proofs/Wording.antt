@@ -28,8 +28,8 @@ lowIn x = x / 16384 % 1024
 abbrev pub highIn : ℕ → ℕ
 highIn x = x / 16 % 1024
 
-abbrev Apart : ℕ → ℕ → Type 0
-Apart a b = (a < 1024) × (b < 1024) × (a ≢ b)
+abbrev TwoCells : ℕ → ℕ → Type 0
+TwoCells a b = (a < 1024) × (b < 1024) × (a ≢ b)
 
 each-at : (P : ℕ → ℕ → Type 0) (m : List Pair) (i : ℕ) (d : Pair) → Each P m → i < length m
     → P (getD m i d .0) (getD m i d .1)
@@ -56,8 +56,8 @@ module _ {m : List Pair} {r : ℕ} {w1 w : List ℕ} (h : WordsThere m r w1 w) w
     abbrev at : Pair
     at = getD m i (0, 0)
 
-    bounds : Apart (at .0) (at .1)
-    bounds = each-at Apart m i (0, 0) (h .within) (omega (arith, as-many))
+    bounds : TwoCells (at .0) (at .1)
+    bounds = each-at TwoCells m i (0, 0) (h .within) (omega (arith, as-many))
 
     word : getD w1 i 0 ≡ pairWord at
     unfolding packed

@@ -38,9 +38,9 @@ abbrev pub startOf : List ℕ → ℕ → ℕ
 startOf [] v = v
 startOf (x ∷ xs) v = cellOf x
 
-abbrev pub pairsOf : List ℕ → ℕ → List Pair
-pairsOf [] v = []
-pairsOf (x ∷ xs) v = (cellOf x, startOf xs v) ∷ pairsOf xs v
+abbrev pub rowPairs : List ℕ → ℕ → List Pair
+rowPairs [] v = []
+rowPairs (x ∷ xs) v = (cellOf x, startOf xs v) ∷ rowPairs xs v
 
 -- The words of a row on the trail from place a on, one for each mark.
 abbrev pub wordsAt : ℕ → List ℕ → List ℕ → List ℕ
@@ -51,8 +51,8 @@ pub record PutThere (a v : ℕ) (marks w2 : List ℕ) : Type 0 where
   pub pairs : List Pair
   pub on-trail : a + length marks ≤ 4096
   pub room2 : 8192 ≤ length w2
-  pub below : Each (λ x y. (x < 1024) × (y < 1024)) (pairsOf (wordsAt a marks w2) v)
-  pub once : Once (marked marks (pairsOf (wordsAt a marks w2) v) ++ pairs)
+  pub below : Each (λ x y. (x < 1024) × (y < 1024)) (rowPairs (wordsAt a marks w2) v)
+  pub once : Once (marked marks (rowPairs (wordsAt a marks w2) v) ++ pairs)
   pub mates : Mates w2 pairs
 
 -- ---- the pairs that a step put for its row

@@ -15,7 +15,7 @@ ghost use Rattle.matching.specs.Steps.{Step as DefinedStep, leaf, ring, chain, 
 ghost use Rattle.rows.specs.Row.{marked};
 ghost use Rattle.finding.specs.Finding.{told, toTell};
 ghost use Rattle.partners.specs.Back.{Mates, UndoThere, Undone, BackThere, Lifted};
-ghost use Rattle.partners.specs.Unwinding.{joined, parted, TableOf, cellOf, pairsOf, wordsAt, PutThere};
+ghost use Rattle.partners.specs.Unwinding.{joined, parted, TableOf, cellOf, rowPairs, wordsAt, PutThere};
 ghost use Rattle.partners.specs.Unwinding.{ChainFreed, RingFreed, closingOf, Writable, pairsIn, moreIn, LeafBack};
 ghost use Rattle.partners.specs.Unwinding.{RingBack, ChainBack};
 
@@ -64,7 +64,7 @@ fn put_marked(marks: &[u64], w2: &mut [u64], a: usize, v: usize)
     requires { ⌜ PutThere a v (now marks) (now w2) ⌝ }
     ensures { λ _. ⌜ ((p : PutThere a v (now (marks .entry)) (now (w2 .entry)))
         → TableOf (now (w2 .entry)) (now (w2 .exit))
-        (marked (now (marks .entry)) (pairsOf (wordsAt a (now (marks .entry)) (now (w2 .entry))) v) ++ p .pairs)) ⌝ }
+        (marked (now (marks .entry)) (rowPairs (wordsAt a (now (marks .entry)) (now (w2 .entry))) v) ++ p .pairs)) ⌝ }
 {
     let mut to = v;
     let mut j = marks.len();

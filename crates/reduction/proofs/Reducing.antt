@@ -23,7 +23,7 @@ use Rattle.reduction.specs.Writing.{leftFile, takenFile}
 use Rattle.checks.specs.Answering.{Does}
 use Rattle.starting.specs.Starting.{listStart, StartDone}
 use Rattle.checks.proofs.Answering.{passed}
-use Rattle.starting.proofs.Courses.{list-graph, left-there, steps-few, steps-below}
+use Rattle.starting.proofs.OnList.{list-graph, left-there, steps-few, steps-below}
 use Rattle.reduction.proofs.Ends.{slip-file}
 use Rattle.reduction.proofs.Replaying.{left-file}
 

@@ -19,7 +19,7 @@ use Rattle.running.specs.Pairs.{PairsLeft}
 use Rattle.reduction.specs.Writing.{leftFile}
 use Rattle.checks.specs.Answering.{Does}
 use Rattle.checks.proofs.Answering.{passed}
-use Rattle.starting.proofs.Courses.{left-there}
+use Rattle.starting.proofs.OnList.{left-there}
 
 -- the short list that is written is that of the steps taken
 pub left-file : (list : List ℕ) (ss : List Step) {n slots trail points steps : ℕ} {w1′ w2′ : List ℕ} → n ≡ cellsOf list

@@ -32,7 +32,7 @@ use Rattle.checks.proofs.Rows.{list-none, too-large-none, wrong-length-none, ba
 use Rattle.starting.specs.Steps.{graphIn, reduceSteps}
 use Rattle.reduction.specs.Calls.{slipFile, shortFile}
 use Rattle.reduction.proofs.Reducing.{reduce-allowed}
-use Rattle.starting.proofs.Courses.{list-few, left-small, steps-few}
+use Rattle.starting.proofs.OnList.{list-few, left-small, steps-few}
 use Rattle.matching.proofs.Demand.{short-fewer}
 use Rattle.lifting.specs.Calls.{graphAfter, pairingFile}
 use Rattle.matching.specs.Solve.{solution}

@@ -16,7 +16,7 @@ use Rattle.matching.proofs.Members.{mem-on, mem-head}
 use Rattle.matching.proofs.Best.{H-nil, best-nil, best-cons}
 use Rattle.matching.proofs.Path.{path-step}
 use Rattle.rows.specs.Row.{rowPoints, two, paying, standing, pathMarks, marked}
-use Rattle.rows.proofs.Points.{along, Apart, apart-next, fresh, second-barred, two-none, two-path, twoFrom}
+use Rattle.rows.proofs.Points.{along, ApartPath, apart-next, fresh, second-barred, two-none, two-path, twoFrom}
 use Rattle.rows.proofs.Points.{map-from}
 
 paying-cons : (p : ℕ) (ps : List ℕ) → paying (p ∷ ps) ≡ ι (pays tie (two ps .0) (p + two ps .1)) ∷ paying ps
@@ -73,7 +73,7 @@ none-left w u c v =
     best-cons tie w (u ∷ c ∷ []) (c, v) []
     ∙ rw (mem-on c u (c ∷ []) (mem-head c c [] refl)) (best-nil tie w (u ∷ c ∷ []))
 
-pub marked-path : (w : Points) (u : ℕ) (cs : List ℕ) (v : ℕ) → Apart u cs v
+pub marked-path : (w : Points) (u : ℕ) (cs : List ℕ) (v : ℕ) → ApartPath u cs v
     → marked (marks w u cs v) (walk u cs v) ≡ best tie w [] (walk u cs v)
 marked-path w u [] v a =
     rw (

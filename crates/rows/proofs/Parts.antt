@@ -22,7 +22,7 @@ use Rattle.matching.proofs.Best.{H-nil, H-cons, best-nil, best-cons}
 use Rattle.matching.proofs.Path.{Alike, Recurs, H-ext, best-ext, length-walk, walk-each, ring-step}
 use Rattle.rows.specs.Row.{rowPoints, rowWords, RowOf, two, heavy, paying, standing, pathMarks, partMarks}
 use Rattle.rows.specs.Row.{unmarked, marked, less, RowBest}
-use Rattle.rows.proofs.Points.{Apart, words-along, two-none, two-path}
+use Rattle.rows.proofs.Points.{ApartPath, words-along, two-none, two-path}
 use Rattle.rows.proofs.Best.{marked-path, length-marks, no-marks}
 
 -- ---- a first or last pair that may not be taken
@@ -116,7 +116,7 @@ less-last w u c cs v off n f =
 
 -- the path up to the last inner cell
 apart-front : (u c : ℕ) (cs : List ℕ) → distinct (c ∷ cs) ≡ true → mem u (c ∷ cs) ≡ false
-    → Apart u (front (c ∷ cs)) (last c cs)
+    → ApartPath u (front (c ∷ cs)) (last c cs)
 apart-front u c [] d f = record {
   ends = λ e. mem-not u c [] f .0 (sym e);
   apart = refl;
@@ -160,11 +160,11 @@ each-left : (P : ℕ → ℕ → Type 0) (m k : List Pair) → Each P (m ++ k) �
 each-left P [] k p = tt
 each-left P (e ∷ m) k p = (p .0, each-left P m k (p .1))
 
-abbrev Fits : Points → List Pair → Type 0
-Fits w es = Each (λ a b. w a b < 17592186044416) es
+abbrev FitsWords : Points → List Pair → Type 0
+FitsWords w es = Each (λ a b. w a b < 17592186044416) es
 
-fits-front : (w : Points) (u c : ℕ) (cs : List ℕ) (v : ℕ) → Fits w (walk u (c ∷ cs) v)
-    → Fits w (walk u (front (c ∷ cs)) (last c cs))
+fits-front : (w : Points) (u c : ℕ) (cs : List ℕ) (v : ℕ) → FitsWords w (walk u (c ∷ cs) v)
+    → FitsWords w (walk u (front (c ∷ cs)) (last c cs))
 fits-front w u c cs v h =
     each-left (λ a b. w a b < 17592186044416) (walk u (front (c ∷ cs)) (last c cs)) ((last c cs, v) ∷ [])
     (subst (λ es. Each (λ a b. w a b < 17592186044416) es) (walk-last u c cs v) h)
@@ -191,8 +191,8 @@ Is w ws a k off all =
 within : {A B : Type 0} {a b c : A} {x y z : B} → (a ≡ b) × (x ≡ y) → (c ≡ b) × (z ≡ y) → (a ≡ c) × (x ≡ z)
 within p q = same p (sym (q .0), sym (q .1))
 
-path : (w : Points) (a : ℕ) (cs : List ℕ) (b : ℕ) {ws : List ℕ} → ws ≡ rowWords w a cs b → Fits w (walk a cs b)
-    → Apart a cs b → Is w ws 0 0 [] (walk a cs b)
+path : (w : Points) (a : ℕ) (cs : List ℕ) (b : ℕ) {ws : List ℕ} → ws ≡ rowWords w a cs b → FitsWords w (walk a cs b)
+    → ApartPath a cs b → Is w ws 0 0 [] (walk a cs b)
 path w a cs b {ws} e h p =
     let q = ap (map rowPoints) e ∙ words-along w a cs b h in (
       ap (λ ps. two ps .0) q ∙ two-path w a cs b p .0,
@@ -203,7 +203,7 @@ path w a cs b {ws} e h p =
 
 -- the row but its last pair, which leaves v free
 ended : (w : Points) (u c : ℕ) (cs : List ℕ) (v : ℕ) {ws : List ℕ}
-    → ws ≡ take (suc (length cs)) (rowWords w u (c ∷ cs) v) → Fits w (walk u (c ∷ cs) v)
+    → ws ≡ take (suc (length cs)) (rowWords w u (c ∷ cs) v) → FitsWords w (walk u (c ∷ cs) v)
     → distinct (c ∷ cs) ≡ true → mem u (c ∷ cs) ≡ false → u ≢ v → mem v (c ∷ cs) ≡ false
     → Is w ws 0 1 (v ∷ []) (walk u (c ∷ cs) v)
 ended w u c cs v {ws} e h d f n g =
@@ -230,7 +230,7 @@ ended w u c cs v {ws} e h d f n g =
 
 -- ---- chains and rings
 
-module _ (w : Points) (u c d : ℕ) (cs : List ℕ) (v : ℕ) (h : Fits w (walk u (c ∷ d ∷ cs) v))
+module _ (w : Points) (u c d : ℕ) (cs : List ℕ) (v : ℕ) (h : FitsWords w (walk u (c ∷ d ∷ cs) v))
     (apart : distinct (c ∷ d ∷ cs) ≡ true) (uf : mem u (c ∷ d ∷ cs) ≡ false) (vf : mem v (c ∷ d ∷ cs) ≡ false) where
   abbrev row : List ℕ
   row = rowWords w u (c ∷ d ∷ cs) v
@@ -266,7 +266,7 @@ module _ (w : Points) (u c d : ℕ) (cs : List ℕ) (v : ℕ) (h : Fits w (walk 
     chain-inner e = within (inner-part e) (less-first w u c (d ∷ cs) v (v ∷ []) ends uf)
 
 -- a ring: v is u
-module _ (w : Points) (u c d : ℕ) (cs : List ℕ) (h : Fits w (walk u (c ∷ d ∷ cs) u))
+module _ (w : Points) (u c d : ℕ) (cs : List ℕ) (h : FitsWords w (walk u (c ∷ d ∷ cs) u))
     (apart : distinct (c ∷ d ∷ cs) ≡ true) (uf : mem u (c ∷ d ∷ cs) ≡ false) where
   abbrev ring : List ℕ
   ring = rowWords w u (c ∷ d ∷ cs) u
@@ -281,7 +281,7 @@ module _ (w : Points) (u c d : ℕ) (cs : List ℕ) (h : Fits w (walk u (c ∷ d
   beside : {ws : List ℕ} → ws ≡ take (length cs) (drop 2 ring) → Is w ws 0 1 (u ∷ []) (walk d cs u)
   beside e = go cs (distinct-cons c (d ∷ cs) apart .1) (mem-not u c (d ∷ cs) uf .1) (h .1 .1) e
     where
-      go : (cs : List ℕ) → distinct (d ∷ cs) ≡ true → mem u (d ∷ cs) ≡ false → Fits w (walk d cs u) → {ws : List ℕ}
+      go : (cs : List ℕ) → distinct (d ∷ cs) ≡ true → mem u (d ∷ cs) ≡ false → FitsWords w (walk d cs u) → {ws : List ℕ}
           → ws ≡ take (length cs) (rowWords w d cs u) → Is w ws 0 1 (u ∷ []) (walk d cs u)
       go [] p f k e =
           within (

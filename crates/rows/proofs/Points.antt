@@ -29,20 +29,20 @@ words-along w u (c ∷ cs) v h = ap₂ _∷_ (omega (arith, h .0)) (words-along 
 -- ---- a path
 
 -- no cell of the path stands twice
-pub record Apart (u : ℕ) (cs : List ℕ) (v : ℕ) : Type 0 where
+pub record ApartPath (u : ℕ) (cs : List ℕ) (v : ℕ) : Type 0 where
   pub ends : u ≢ v
   pub apart : distinct cs ≡ true
   pub first-off : mem u cs ≡ false
   pub last-off : mem v cs ≡ false
 
-pub apart-next : (u c : ℕ) (cs : List ℕ) (v : ℕ) → Apart u (c ∷ cs) v → Apart c cs v
+pub apart-next : (u c : ℕ) (cs : List ℕ) (v : ℕ) → ApartPath u (c ∷ cs) v → ApartPath c cs v
 apart-next u c cs v a =
     let d = distinct-cons c cs (a .apart) in
     let n = mem-not v c cs (a .last-off) in
     record { ends = n .0; apart = d .1; first-off = d .0; last-off = n .1 }
 
 -- the first two cells stand in no pair from the third on
-pub fresh : (u c d : ℕ) (cs : List ℕ) (v : ℕ) → Apart u (c ∷ d ∷ cs) v → (x : ℕ)
+pub fresh : (u c d : ℕ) (cs : List ℕ) (v : ℕ) → ApartPath u (c ∷ d ∷ cs) v → (x : ℕ)
     → (mem x (d ∷ cs) ≡ true) ⊎ (v ≡ x) → (u ≢ x) × (c ≢ x)
 fresh u c d cs v a x (inl m) = (
   (λ e. mem-apart x u (c ∷ d ∷ cs) (mem-on x c (d ∷ cs) m) (a .first-off) (sym e)),
@@ -76,7 +76,7 @@ pub second-barred : (w : Points) (u c v : ℕ) → H w (u ∷ c ∷ []) ((c, v) 
 second-barred w u c v =
     H-cons w (u ∷ c ∷ []) (c, v) [] ∙ rw (mem-on c u (c ∷ []) (mem-head c c [] refl)) (H-nil w (u ∷ c ∷ []))
 
-pub two-path : (w : Points) (u : ℕ) (cs : List ℕ) (v : ℕ) → Apart u cs v
+pub two-path : (w : Points) (u : ℕ) (cs : List ℕ) (v : ℕ) → ApartPath u cs v
     → (two (along w u cs v) .0 ≡ H w [] (walk u cs v)) × (two (along w u cs v) .1 ≡ after w cs v)
 two-path w u [] v a = (
   two-first (w u v) [] ∙ rw (two-none .0, two-none .1) (sym (one-pair w u v)),

@@ -18,7 +18,7 @@ use Rattle.matching.proofs.Fits.{Stands}
 use Rattle.matching.proofs.Tally.{cells-most}
 use Rattle.matching.proofs.Reduce.{replay-fits, slip-count, reduce-replay, reduce-append}
 use Rattle.matching.proofs.Demand.{slip-graph}
-use Rattle.matching.proofs.Course.{behind, left-append, carried-append, replay-split}
+use Rattle.matching.proofs.Behind.{behind, left-append, carried-append, replay-split}
 use Rattle.slots.specs.Slots.{graphOf}
 use Rattle.finding.specs.Bounds.{RingQuiet, RingsLeft}
 use Rattle.taking.specs.Trail.{closing, trail, Small}
@@ -28,7 +28,7 @@ use Rattle.leaves.proofs.Noting.{trail-leaves}
 use Rattle.running.specs.Course.{course}
 use Rattle.running.specs.Running.{namesFrom, Spare, After}
 use Rattle.cellfile.specs.Words.{nameWord}
-use Rattle.running.proofs.Coursing.{behind-append, behind-none}
+use Rattle.running.proofs.Course.{behind-append, behind-none}
 use Rattle.taking.proofs.Trail.{trail-append, trail-room}
 use Rattle.running.proofs.Runs.{Coursing, fuel, names-out, name-word}
 

@@ -1,7 +1,7 @@
 -- The laws of the loop, of loading and of the short list.
 pub mod Loading
-pub mod Placing
+pub mod Inserting
 pub mod Listing
-pub mod Coursing
+pub mod Course
 pub mod Runs
 pub mod LeafRuns

@@ -1,5 +1,5 @@
 -- The loop of replay and reduce. In order: the names of a slip one by one (`names-here`, `names-out`); the step that
--- comes next, as it is found (`next-scanned`, `next-first`) and named (`name-some`, `name-none`); what holds before
+-- comes next, as it is found (`next-scanned`, `next-first`) and named (`name-leaf` and so on); what holds before
 -- step k (`Coursing`, `run-start`), what taking it asks (`run-there`), that no leaf and no ring is below the bounds
 -- after it (`run-quiet`, `run-rings`), that the rest holds again (`run-on`), and how the loop ends (`run-refused`, `run-ends`, `run-out`).
 -- Assumes nothing.
@@ -26,7 +26,7 @@ use Rattle.matching.proofs.More.{graph-to, is-more, is-less, step-more}
 use Rattle.matching.proofs.Tally.{cells-most}
 use Rattle.matching.proofs.Reduce.{replay-fits, slip-count}
 use Rattle.matching.proofs.Demand.{slip-graph}
-use Rattle.matching.proofs.Course.{behind, left-append, carried-append, replay-split}
+use Rattle.matching.proofs.Behind.{behind, left-append, carried-append, replay-split}
 use Rattle.cellfile.specs.Fields.{packed, readRecord}
 use Rattle.cellfile.specs.Files.{slip as slipLayout, asPair, ruleOf, asName, numberOf}
 use Rattle.cellfile.specs.Answers.{Answer}
@@ -44,12 +44,11 @@ use Rattle.taking.specs.declared.Taken.{Taken}
 use Rattle.taking.proofs.TakenRow.{drop-same}
 use Rattle.taking.proofs.Applied.{found-step}
 use Rattle.running.specs.Course.{course}
-use Rattle.running.specs.Running.{namesAt, namesFrom, nextStep, named, toName, RunThere, After, RunDone}
+use Rattle.running.specs.Running.{namesAt, namesFrom, nextStep, Names, RunThere, After, RunDone}
 use Rattle.cellfile.specs.Words.{nameWord}
-use Rattle.running.specs.declared.Named.{Named}
-use Rattle.running.specs.declared.Named.the-variants as names
-use Rattle.running.proofs.Coursing.{Ahead, course-on, course-refused, course-ends, course-out, behind-append}
-use Rattle.running.proofs.Coursing.{behind-nil, behind-none, next-named}
+use Rattle.running.specs.declared.Name.{Name}
+use Rattle.running.proofs.Course.{OneLess, course-on, course-refused, course-ends, course-out, behind-append}
+use Rattle.running.proofs.Course.{behind-nil, behind-none, next-named}
 use Rattle.taking.proofs.Trail.{trail-append, trail-room}
 
 -- ---- the names of a slip
@@ -90,43 +89,32 @@ module _ {e : ℕ} {w1 : List ℕ} {n : ℕ} (g : Graph n (graphOf e w1)) (le : 
 second : Answer → ℕ → ℕ
 second a i = getD (a .1) i 0
 
-pub name-leaf : (v u : ℕ) (o : Option Step) → (1, v ∷ u ∷ []) ≡ toTell o → (1, v ∷ []) ≡ toName o
+pub name-leaf : {v u : ℕ} {x : Name} (s : Step) → (1, v ∷ u ∷ []) ≡ toTell (some s) → x .rule ≡ 1 → x .cell ≡ v
+    → Names s x
 unfolding second
-name-leaf v u none q = absurd (omega (arith, ap (λ (a : Answer). a .0) q))
-name-leaf v u (some (leaf u′ v′)) q = ap (λ x. (1, x ∷ [])) (ap (λ (a : Answer). second a 0) q)
-name-leaf v u (some (ring u′ z inner)) q = absurd (omega (arith, ap (λ (a : Answer). a .0) q))
-name-leaf v u (some (chain u′ v′ z inner)) q = absurd (omega (arith, ap (λ (a : Answer). a .0) q))
+name-leaf (leaf u′ v′) q r c = record { rule = r; cell = c ∙ ap (λ (a : Answer). second a 0) q }
+name-leaf (ring u′ z inner) q r c = absurd (omega (arith, ap (λ (a : Answer). a .0) q))
+name-leaf (chain u′ v′ z inner) q r c = absurd (omega (arith, ap (λ (a : Answer). a .0) q))
 
-pub name-ring : (u z : ℕ) (o : Option Step) → (2, u ∷ z ∷ []) ≡ toTell o → (2, z ∷ []) ≡ toName o
+pub name-ring : {u z : ℕ} {x : Name} (s : Step) → (2, u ∷ z ∷ []) ≡ toTell (some s) → x .rule ≡ 2 → x .cell ≡ z
+    → Names s x
 unfolding second
-name-ring u z none q = absurd (omega (arith, ap (λ (a : Answer). a .0) q))
-name-ring u z (some (leaf u′ v′)) q = absurd (omega (arith, ap (λ (a : Answer). a .0) q))
-name-ring u z (some (ring u′ z′ inner)) q = ap (λ x. (2, x ∷ [])) (ap (λ (a : Answer). second a 1) q)
-name-ring u z (some (chain u′ v′ z′ inner)) q = absurd (omega (arith, ap (λ (a : Answer). a .0) q))
+name-ring (leaf u′ v′) q r c = absurd (omega (arith, ap (λ (a : Answer). a .0) q))
+name-ring (ring u′ z′ inner) q r c = record { rule = r; cell = c ∙ ap (λ (a : Answer). second a 1) q }
+name-ring (chain u′ v′ z′ inner) q r c = absurd (omega (arith, ap (λ (a : Answer). a .0) q))
 
-pub name-chain : (u v z : ℕ) (o : Option Step) → (3, u ∷ v ∷ z ∷ []) ≡ toTell o → (3, z ∷ []) ≡ toName o
+pub name-chain : {u v z : ℕ} {x : Name} (s : Step) → (3, u ∷ v ∷ z ∷ []) ≡ toTell (some s) → x .rule ≡ 3
+    → x .cell ≡ z → Names s x
 unfolding second
-name-chain u v z none q = absurd (omega (arith, ap (λ (a : Answer). a .0) q))
-name-chain u v z (some (leaf u′ v′)) q = absurd (omega (arith, ap (λ (a : Answer). a .0) q))
-name-chain u v z (some (ring u′ z′ inner)) q = absurd (omega (arith, ap (λ (a : Answer). a .0) q))
-name-chain u v z (some (chain u′ v′ z′ inner)) q = ap (λ x. (3, x ∷ [])) (ap (λ (a : Answer). second a 2) q)
+name-chain (leaf u′ v′) q r c = absurd (omega (arith, ap (λ (a : Answer). a .0) q))
+name-chain (ring u′ z′ inner) q r c = absurd (omega (arith, ap (λ (a : Answer). a .0) q))
+name-chain (chain u′ v′ z′ inner) q r c = record { rule = r; cell = c ∙ ap (λ (a : Answer). second a 2) q }
 
-pub name-nothing : (o : Option Step) → (0, []) ≡ toTell o → (0, []) ≡ toName o
-name-nothing none q = refl
-name-nothing (some (leaf u v)) q = absurd (omega (arith, ap (λ (a : Answer). a .0) q))
-name-nothing (some (ring u z inner)) q = absurd (omega (arith, ap (λ (a : Answer). a .0) q))
-name-nothing (some (chain u v z inner)) q = absurd (omega (arith, ap (λ (a : Answer). a .0) q))
-
--- a name is that of a step, and where there is none there is no step
-pub name-some : {rule cell : ℕ} (o : Option Step) → (rule, cell ∷ []) ≡ toName o
-    → (s : Step) × (o ≡ some s) × (rule ≡ numberOf (name s .0)) × (cell ≡ name s .1)
-unfolding second
-name-some none q = absurd (omega (arith, ap (λ (a : Answer). length (a .1)) q))
-name-some (some s) q = (s, refl, ap (λ (a : Answer). a .0) q, ap (λ (a : Answer). second a 0) q)
-
-pub name-none : (o : Option Step) → (0, []) ≡ toName o → o ≡ none
-name-none none q = refl
-name-none (some s) q = absurd (omega (arith, ap (λ (a : Answer). length (a .1)) q))
+-- a step is told as one
+pub name-no : {x : Name} (s : Step) → (0, []) ≡ toTell (some s) → Names s x
+name-no (leaf u v) q = absurd (omega (arith, ap (λ (a : Answer). a .0) q))
+name-no (ring u z inner) q = absurd (omega (arith, ap (λ (a : Answer). a .0) q))
+name-no (chain u v z inner) q = absurd (omega (arith, ap (λ (a : Answer). a .0) q))
 
 -- ---- what holds before step k
 
@@ -175,11 +163,11 @@ names-next m slip k l = (
 )
 
 ahead : (m more : ℕ) (slip : List ℕ) (k : ℕ) → k < m + more
-    → Ahead (namesFrom m slip k) (fuel m more k) (namesFrom m slip (k + 1)) (fuel m more (k + 1))
+    → OneLess (namesFrom m slip k) (fuel m more k) (namesFrom m slip (k + 1)) (fuel m more (k + 1))
 ahead m more slip k l = go (ltT k m)
   where
     go : {t : Bool} → Test (k < m) (m ≤ k) t
-        → Ahead (namesFrom m slip k) (fuel m more k) (namesFrom m slip (k + 1)) (fuel m more (k + 1))
+        → OneLess (namesFrom m slip k) (fuel m more k) (namesFrom m slip (k + 1)) (fuel m more (k + 1))
     go (pass h) = (let x = names-next m slip k h in inl (x .0, x .1, omega arith))
     go (fail h) = inr (names-out m slip k h, names-out m slip (k + 1) (omega arith), omega arith)
 
@@ -207,9 +195,6 @@ module _ {n : ℕ} {w : Points} (g : Graph n w) (le : n ≤ 1024) (small : Small
 
   pub run-graph : Graph n (graphOf slots w1)
   run-graph = subst (Graph n) (sym (h .after .graph)) graph-left
-
-  pub run-small : points < 17592186044416
-  run-small = omega (arith, h .after .carries, small (map name (h .taken)) (h .taken) (h .allowed) 0 0)
 
   -- the loop ends
   pub run-out : m + more ≤ k → RunDone n w (namesAt m slip) more slots on-trail points k w1 w2
@@ -410,11 +395,3 @@ module _ {n : ℕ} {w : Points} (g : Graph n w) (le : n ≤ 1024) (small : Small
             (sym (left-append w (h .taken) (s ∷ [])));
         top = omega arith;
       }
-
--- the name that the code has of it
-pub found-name : {x : Named} (o : Option Step) → named x ≡ toName o → {rule cell : ℕ} → x ≡ names.Step rule cell
-    → (s : Step) × (o ≡ some s) × (rule ≡ numberOf (name s .0)) × (cell ≡ name s .1)
-found-name o q e = name-some o (sym (ap named e) ∙ q)
-
-pub found-none : {x : Named} (o : Option Step) → named x ≡ toName o → x ≡ names.None → o ≡ none
-found-none o q e = name-none o (sym (ap named e) ∙ q)

@@ -9,14 +9,13 @@ use Rattle.matching.specs.Graph.{Graph}
 use Rattle.matching.specs.Steps.{Rule, Step, name}
 use Rattle.matching.specs.Find.{stepAt, firstStep}
 use Rattle.matching.specs.Slip.{left, carried}
-use Rattle.cellfile.specs.Answers.{Answer}
 use Rattle.cellfile.specs.Fields.{readRecords}
 use Rattle.cellfile.specs.Files.{slip as slipLayout, asPair, asName, numberOf}
+use Rattle.buffers.specs.Buffers.{Cleared}
 use Rattle.slots.specs.Slots.{Holds, graphOf}
 use Rattle.taking.specs.Trail.{trail, Small}
 use Rattle.running.specs.Course.{course}
-use Rattle.running.specs.declared.Named.{Named}
-use Rattle.running.specs.declared.Named.the-variants as names
+use Rattle.running.specs.declared.Name.{Name}
 use Rattle.running.specs.declared.Ran.{Ran}
 use Rattle.running.specs.declared.Ran.the-variants.{Refused, Done}
 use Rattle.cellfile.specs.Words.{nameWord}
@@ -33,14 +32,10 @@ abbrev pub nextStep : ℕ → Points → List (Rule × ℕ) → Option Step
 nextStep n w [] = firstStep n w
 nextStep n w (r ∷ rs) = stepAt n w (r .0) (r .1)
 
--- The name of a step found, as its rule's number and its cell; and as it is to be.
-abbrev pub named : Named → Answer
-named (names.Step rule cell) = (rule, cell ∷ [])
-named names.None = (0, [])
-
-abbrev pub toName : Option Step → Answer
-toName none = (0, [])
-toName (some s) = (numberOf (name s .0), name s .1 ∷ [])
+-- The name of the step.
+pub record Names (s : Step) (r : Name) : Type 0 where
+  pub rule : r .rule ≡ numberOf (name s .0)
+  pub cell : r .cell ≡ name s .1
 
 -- After k steps and with so many words on the trail there is room for r more steps as reduce takes them; none where the
 -- slip has steps left.
@@ -69,13 +64,15 @@ pub record After (w : Points) (taken : List Step) (slots on-trail points steps :
   pub count : steps ≡ length taken
   pub names : take steps (drop 6144 w2′) ≡ map nameWord taken
 
--- The course was run to its end, or a step of the slip is not allowed.
+-- The course was run to its end; or a step of the slip is not allowed, and the buffers are zero.
 pub record RunDone (n : ℕ) (w : Points) (rs : List (Rule × ℕ)) (more : ℕ) (slots on-trail points steps : ℕ)
     (w1′ w2′ : List ℕ) : Type 0 where
   pub taken : List Step
   pub course : course n w rs more ≡ some taken
   pub after : After w taken slots on-trail points steps w1′ w2′
 
-abbrev pub Runs : ℕ → Points → List (Rule × ℕ) → ℕ → List ℕ → List ℕ → Ran → Type 0
-Runs n w rs more w1′ w2′ (Refused k) = (k ≡ 8) × (course n w rs more ≡ none)
-Runs n w rs more w1′ w2′ (Done slots trail carried steps) = RunDone n w rs more slots trail carried steps w1′ w2′
+abbrev pub Runs : ℕ → Points → List (Rule × ℕ) → ℕ → (w1 w2 w1′ w2′ : List ℕ) → Ran → Type 0
+Runs n w rs more w1 w2 w1′ w2′ (Refused k) =
+    (k ≡ 8) × (course n w rs more ≡ none) × Cleared w1 w1′ × Cleared w2 w2′
+Runs n w rs more w1 w2 w1′ w2′ (Done slots trail carried steps) =
+    RunDone n w rs more slots trail carried steps w1′ w2′

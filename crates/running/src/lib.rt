@@ -2,6 +2,7 @@
 // reduction.
 pub mod lists;
 
+use buffers;
 use cellfile::decode;
 use finding;
 use finding::Found;
@@ -10,7 +11,7 @@ use finding::bounds;
 use leaves;
 use taking;
 ghost use mathlib.Core.Path.{_≡_};
-ghost use mathlib.Core.Option.{Option};
+ghost use mathlib.Core.Option.{some};
 ghost use Prim.Native.Nat.{_+_, _*_, _≤_, _<_};
 ghost use lib.ListN.{length};
 ghost use Rattle.matching.specs.Graph.{Graph};
@@ -18,9 +19,9 @@ ghost use Rattle.matching.specs.Steps.{Step as DefinedStep};
 ghost use Rattle.slots.specs.Slots.{Holds, graphOf};
 ghost use Rattle.finding.specs.Finding.{told, toTell, Finds};
 ghost use Rattle.finding.specs.Bounds.{Quiet, RingQuiet};
-ghost use Rattle.running.specs.Running.{RunThere, Runs, namesAt, namesFrom, nextStep, named, toName, Spare};
+ghost use Rattle.running.specs.Running.{RunThere, Runs, namesAt, namesFrom, nextStep, Names, Spare};
 
-// A refusal, or what stands in the buffers after the steps: the slots in use, the words on the trail, the points carried,
+// Refusal 8, or what stands in the buffers after the steps: the slots in use, the words on the trail, the points carried,
 // and the number of steps, which stand as words from 6,144 on in the second buffer.
 pub enum Ran {
     Refused(u32),
@@ -33,24 +34,24 @@ pub enum Ran {
 }
 
 // How a slip names a step.
-pub enum Named {
-    Step { rule: u64, cell: usize },
-    None,
+pub struct Name {
+    pub rule: u64,
+    pub cell: usize,
 }
 
 const NAMES: usize = 6144;
 
 const RULE_UNIT: u64 = 1024;
 
-// The name of a step, or none.
-fn name_of(step: Step) -> Named
-    ensures { λ r. ⌜ ((o : Option DefinedStep) → told step ≡ toTell o → named r ≡ toName o) ⌝ }
+// The name of a step; of none nothing counts.
+fn name_of(step: Step) -> Name
+    ensures { λ r. ⌜ ((s : DefinedStep) → told step ≡ toTell (some s) → Names s r) ⌝ }
 {
     match step {
-        Step::Leaf { v, u: _ } => Named::Step { rule: 1, cell: v },
-        Step::Ring { u: _, z } => Named::Step { rule: 2, cell: z },
-        Step::Chain { u: _, v: _, z } => Named::Step { rule: 3, cell: z },
-        Step::None => Named::None,
+        Step::Leaf { v, u: _ } => Name { rule: 1, cell: v },
+        Step::Ring { u: _, z } => Name { rule: 2, cell: z },
+        Step::Chain { u: _, v: _, z } => Name { rule: 3, cell: z },
+        Step::None => Name { rule: 0, cell: 0 },
     }
 }
 
@@ -98,7 +99,8 @@ fn spare(m: usize, more: usize, k: usize, trail: usize) -> usize
     bounds::lower(room, m + more - k)
 }
 
-// Takes the first m steps of the slip, then at most `more` steps as reduce takes them.
+// Takes the first m steps of the slip, then at most `more` steps as reduce takes them. Where a step of the slip is not
+// allowed, the buffers are zero afterwards.
 pub fn run(
     slip: &[u8],
     m: usize,
@@ -110,7 +112,7 @@ pub fn run(
 ) -> Ran
     requires { ⌜ RunThere n e m (now slip) (now w1) (now w2) × (more ≤ 1024) ⌝ }
     ensures { λ r. ⌜ Runs n (graphOf e (now (w1 .entry))) (namesAt m (now (slip .entry))) more
-        (now (w1 .exit)) (now (w2 .exit)) r ⌝ }
+        (now (w1 .entry)) (now (w2 .entry)) (now (w1 .exit)) (now (w2 .exit)) r ⌝ }
 {
     let mut slots = e;
     let mut trail = 0;
@@ -121,18 +123,21 @@ pub fn run(
     while k < m + more {
         let x = next(slip, m, k, n, w1, w2, slots, low, rings);
         let step = x.step;
-        let Named::Step { rule, cell } = name_of(step) else {
+        let (Step::Leaf { .. } | Step::Ring { .. } | Step::Chain { .. }) = step else {
             if k < m {
+                buffers::clear(w1);
+                buffers::clear(w2);
                 return Ran::Refused(8);
             }
             break;
         };
+        let name = name_of(step);
         let taken = x.step;
         low = bounds::quiet_after(w1, w2, slots, taken, low);
         let again = x.step;
         let left = bounds::rings_after(w1, w2, slots, again, rings);
         let t = taking::take_step(w1, w2, slots, trail, x);
-        w2[NAMES + k] = rule * RULE_UNIT + cell as u64;
+        w2[NAMES + k] = name.rule * RULE_UNIT + name.cell as u64;
         slots = t.slots;
         trail = t.trail;
         carried += t.carried;

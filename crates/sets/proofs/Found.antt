@@ -11,7 +11,7 @@ use Rattle.sets.specs.Sets.{inSet, heaviest, pairOf, Known, Ready}
 use Rattle.sets.specs.Tries.{Lowest, together, partnered, Partner}
 use Rattle.sets.proofs.Places.{fewer-first, fewer-next, places-few}
 use Rattle.sets.proofs.Heaviest.{heaviest-none, heaviest-with}
-use Rattle.sets.proofs.Known.{Kept, known-below, ready-less}
+use Rattle.sets.proofs.Known.{KeptKnown, known-below, ready-less}
 
 -- ---- the lowest place
 
@@ -49,7 +49,7 @@ pub found-ready : {ws w0 w1 : List ℕ} {s left n x : ℕ} → Ready ws w0 s →
     → Ready ws w1 x
 found-ready r f l = ready-less r (f .long) (f .known) (omega (arith, f .within))
 
-module _ {ws w0 w1 w2 : List ℕ} {s left n : ℕ} (f : Found ws w0 w1 s left n) (k : Kept ws w1 w2) where
+module _ {ws w0 w1 w2 : List ℕ} {s left n : ℕ} (f : Found ws w0 w1 s left n) (k : KeptKnown ws w1 w2) where
   found-few : n ≤ 6
   found-few = omega (arith, f .few)
 

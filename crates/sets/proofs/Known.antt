@@ -1,5 +1,5 @@
 -- What is known of sets. In order: a set that becomes known, and a pair written before the table; a buffer that keeps
--- both (`Kept`) through calls; being ready for a smaller set.
+-- both (`KeptKnown`) through calls; being ready for a smaller set.
 use mathlib.Core.Path.{_≡_, refl, _∙_}
 use mathlib.Core.Logic.{_≢_}
 use mathlib.Core.Bool.{Bool}
@@ -27,19 +27,19 @@ pub known-below : (ws w1 : List ℕ) (j v : ℕ) → j < 4096 → Known ws w1 �
 known-below ws w1 j v l k x h = rw (getD-set-other w1 j (4096 + x) v 0 (λ z. omega (arith, z))) (k x h)
 
 -- The buffer w1 where it was w0: what is known is right, and the pairs found stand.
-pub record Kept (ws w0 w1 : List ℕ) : Type 0 where
+pub record KeptKnown (ws w0 w1 : List ℕ) : Type 0 where
   pub long : length w1 ≡ length w0
   pub known : Known ws w1
   pub front : take 4096 w1 ≡ take 4096 w0
 
-pub kept-none : {ws w : List ℕ} → Known ws w → Kept ws w w
+pub kept-none : {ws w : List ℕ} → Known ws w → KeptKnown ws w w
 kept-none k = record { long = refl; known = k; front = refl }
 
 pub kept-call : {ws w0 w1 : List ℕ} → length w1 ≡ length w0 → Known ws w1 → take 4096 w1 ≡ take 4096 w0
-    → Kept ws w0 w1
+    → KeptKnown ws w0 w1
 kept-call e k t = record { long = e; known = k; front = t }
 
-pub kept-all : {ws w0 w1 w2 : List ℕ} → Kept ws w0 w1 → Kept ws w1 w2 → Kept ws w0 w2
+pub kept-all : {ws w0 w1 w2 : List ℕ} → KeptKnown ws w0 w1 → KeptKnown ws w1 w2 → KeptKnown ws w0 w2
 kept-all a b = record { long = b .long ∙ a .long; known = b .known; front = b .front ∙ a .front }
 
 pub ready-less : {ws w0 w1 : List ℕ} {s x : ℕ} → Ready ws w0 s → length w1 ≡ length w0 → Known ws w1 → x ≤ s

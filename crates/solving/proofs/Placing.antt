@@ -50,42 +50,42 @@ ones-out k p l q =
     let z : ones k / 2 ^ p ≡ 0 = div-eq-of-lt (omega (arith, ones-lt k)) in
     omega arith)
 
--- The numbers below k, ascending.
-abbrev below : ℕ → List ℕ
-below zero = []
-below (suc k) = below k ++ k ∷ []
+-- The numbers numbersBelow k, ascending.
+abbrev numbersBelow : ℕ → List ℕ
+numbersBelow zero = []
+numbersBelow (suc k) = numbersBelow k ++ k ∷ []
 
-places-in : (k j : ℕ) → j ≤ k → places j (ones k) ≡ below j
+places-in : (k j : ℕ) → j ≤ k → places j (ones k) ≡ numbersBelow j
 unfolding places
 places-in k zero l = refl
 places-in k (suc j) l =
     rw (places-in k j (omega arith), eq-eqb (ones k / 2 ^ j % 2) 1 (ones-in k j (omega arith)))
 
-places-past : (k d : ℕ) → places (d + k) (ones k) ≡ below k
+places-past : (k d : ℕ) → places (d + k) (ones k) ≡ numbersBelow k
 unfolding places
 places-past k zero = (let z : 0 + k ≡ k = omega arith in rw z (places-in k k (omega arith)))
 places-past k (suc d) =
     let z : suc d + k ≡ suc (d + k) = omega arith in
     rw (z, places-past k d, ne-eqb (ones k / 2 ^ (d + k) % 2) 1 (ones-out k (d + k) (omega arith)))
-    (append-nil (below k))
+    (append-nil (numbersBelow k))
 
-first-places : (k : ℕ) → k ≤ 12 → inSet (ones k) ≡ below k
+first-places : (k : ℕ) → k ≤ 12 → inSet (ones k) ≡ numbersBelow k
 first-places k l =
     (let z : 12 ≡ 12 - k + k = omega arith in ap (λ j. places j (ones k)) z ∙ places-past k (12 - k))
 
-below-all : (k : ℕ) → All (λ i. i < k) (below k)
+below-all : (k : ℕ) → All (λ i. i < k) (numbersBelow k)
 below-all zero = tt
 below-all (suc k) =
-    all-append (λ i. i < suc k) (below k) (k ∷ []) (all-map (λ i l. omega arith) (below k) (below-all k))
+    all-append (λ i. i < suc k) (numbersBelow k) (k ∷ []) (all-map (λ i l. omega arith) (numbersBelow k) (below-all k))
     (omega arith, tt)
 
 -- ---- a list by its places
 
 map-below : (f : ℕ → ℕ) (cs : List ℕ) (k : ℕ) → k ≤ length cs → ((i : ℕ) → i < k → f i ≡ getD cs i 0)
-    → map f (below k) ≡ take k cs
+    → map f (numbersBelow k) ≡ take k cs
 map-below f cs zero l h = refl
 map-below f cs (suc k) l h =
-    map-append f (below k) (k ∷ [])
+    map-append f (numbersBelow k) (k ∷ [])
     ∙ ap₂ (λ xs x. xs ++ x ∷ []) (map-below f cs k (omega arith) (λ i m. h i (omega arith))) (h k (omega arith))
     ∙ sym (take-suc cs k 0 (omega arith))
 
@@ -109,7 +109,7 @@ module _ (n k : ℕ) (w : Points) (ws : List ℕ) (few : k ≤ 12) (count : k �
           other (pass b) q = omega (arith, rising i j b m)
           other (fail b) q = omega (arith, rising j i (omega (arith, d)) l)
 
-  all-cells : map (cellAt ws) (below k) ≡ withPairs n w n
+  all-cells : map (cellAt ws) (numbersBelow k) ≡ withPairs n w n
   all-cells =
       map-below (cellAt ws) (withPairs n w n) k (omega (arith, count)) cells
       ∙ take-all k (withPairs n w n) (omega (arith, count))
@@ -117,8 +117,8 @@ module _ (n k : ℕ) (w : Points) (ws : List ℕ) (few : k ≤ 12) (count : k �
   pub places-solved : map (pairOf ws) (heaviest ws (2 ^ k - 1)) ≡ map pairWord (solution n w)
   places-solved =
       ap (λ ps. map (pairOf ws) (solve 12 (between ws) ps)) (first-places k few)
-      ∙ sym (map-map pairWord (both (cellAt ws)) (solve 12 (between ws) (below k)))
-      ∙ ap (map pairWord) (sym (solve-renamed renames 12 (below k) (all-mem (λ i. i < k) (below k) (below-all k)))
+      ∙ sym (map-map pairWord (both (cellAt ws)) (solve 12 (between ws) (numbersBelow k)))
+      ∙ ap (map pairWord) (sym (solve-renamed renames 12 (numbersBelow k) (all-mem (λ i. i < k) (numbersBelow k) (below-all k)))
       ∙ ap (solve 12 w) all-cells
       ∙ solve-fuel 12 n w (withPairs n w n) (omega (arith, count)) (with-few n w n))
 

@@ -1,3 +1,3 @@
 -- The laws of the first part of a call.
-pub mod Courses
+pub mod OnList
 pub mod Starts

@@ -22,11 +22,13 @@ use Rattle.starting.specs.Steps.{graphIn, stepsOn, reduceSteps}
 use Rattle.running.specs.Course.{course}
 use Rattle.running.specs.Running.{After, RunDone, namesAt}
 use Rattle.starting.specs.Starting.{SlipThere, Loaded, slipRow, standRow, StartDone, Starts, courseOn, Takes}
+use Rattle.starting.specs.Starting.{RefusedClears, Settles}
 use Rattle.starting.specs.declared.Started.{Started}
 use Rattle.starting.specs.declared.Started.the-variants.{Refused, Done}
-use Rattle.starting.proofs.Courses.{course-replay}
-use lib.ListN.{getD}
+use Rattle.starting.proofs.OnList.{course-replay}
+use lib.ListN.{getD, length}
 use Rattle.checks.proofs.Rows.{first-none}
+use Rattle.buffers.specs.Buffers.{zeros, Cleared}
 
 -- ---- rows, and those after them
 
@@ -57,6 +59,31 @@ pub not-started : (rows : List Row) (list : List ℕ) (o : Option (List Step)) (
     → Starts rows list o w1′ w2′ (Refused k) → (k, []) ≡ answer (first rows) (0 ∷ [])
 unfolding Starts
 not-started rows list o w1′ w2′ k s = s
+
+-- ---- a refusal clears the buffers
+
+pub settles-refused : (w1 w2 w1′ w2′ : List ℕ) {r : Started} {k : ℕ} → r ≡ Refused k → Cleared w1 w1′ → Cleared w2 w2′
+    → Settles w1 w2 w1′ w2′ r
+unfolding Settles
+settles-refused w1 w2 w1′ w2′ e p q = rw e (p, q)
+
+pub settles-done : (w1 w2 : List ℕ) {r : Started} {n slots trail points steps : ℕ} → r ≡ Done n slots trail points steps
+    → Settles w1 w2 w1 w2 r
+unfolding Settles
+settles-done w1 w2 e = rw e (refl, refl)
+
+-- what it left in them does not count
+pub settled : (rows : List Row) (list : List ℕ) (o : Option (List Step)) (w1 w2 w1′ w2′ : List ℕ) (r : Started)
+    → Starts rows list o w1 w2 r → Settles w1 w2 w1′ w2′ r → Starts rows list o w1′ w2′ r
+unfolding Starts Settles
+settled rows list o w1 w2 w1′ w2′ (Refused k) s h = s
+settled rows list o w1 w2 w1′ w2′ (Done n slots trail carried steps) s h = rw (h .0, h .1) s
+
+pub settled-clears : (v1 v2 w1 w2 w1′ w2′ : List ℕ) (r : Started) → length w1 ≡ length v1
+    → length w2 ≡ length v2 → Settles w1 w2 w1′ w2′ r → RefusedClears v1 v2 w1′ w2′ r
+unfolding Settles RefusedClears
+settled-clears v1 v2 w1 w2 w1′ w2′ (Refused k) p q h = (h .0 ∙ ap zeros p, h .1 ∙ ap zeros q)
+settled-clears v1 v2 w1 w2 w1′ w2′ (Done n slots trail carried steps) p q h = tt
 
 -- ---- refusal 1
 

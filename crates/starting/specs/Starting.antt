@@ -14,6 +14,7 @@ use Rattle.starting.specs.declared.Started.{Started}
 use Rattle.starting.specs.declared.Started.the-variants.{Refused, Done}
 use mathlib.Core.Bool.{false}
 use lib.ListN.{length}
+use Rattle.buffers.specs.Buffers.{Cleared}
 use Rattle.slots.specs.Slots.{Holds, graphOf}
 
 -- The list has passed refusals 2 to 6, the buffers refusal 1.
@@ -61,6 +62,16 @@ unfoldable pub Starts : List Row → List ℕ → Option (List Step) → (w1′ 
 Starts rows list o w1′ w2′ (Refused k) = (k, []) ≡ answer (first rows) (0 ∷ [])
 Starts rows list o w1′ w2′ (Done n slots trail carried steps) =
     (first rows ≡ 0) × StartDone list o n slots trail carried steps w1′ w2′
+
+-- A refusal clears the buffers, and nothing else changes them.
+unfoldable pub Settles : (w1 w2 w1′ w2′ : List ℕ) → Started → Type 0
+Settles w1 w2 w1′ w2′ (Refused k) = Cleared w1 w1′ × Cleared w2 w2′
+Settles w1 w2 w1′ w2′ (Done n slots trail carried steps) = (w1′ ≡ w1) × (w2′ ≡ w2)
+
+-- A refusal leaves the work buffers zero.
+unfoldable pub RefusedClears : (w1 w2 w1′ w2′ : List ℕ) → Started → Type 0
+RefusedClears w1 w2 w1′ w2′ (Refused k) = Cleared w1 w1′ × Cleared w2 w2′
+RefusedClears w1 w2 w1′ w2′ (Done n slots trail carried steps) = Unit {0}
 
 -- The course of the first k steps of a slip and then at most `more`; a step of the slip is not allowed, or it was run.
 abbrev pub courseOn : List ℕ → List ℕ → ℕ → ℕ → Option (List Step)

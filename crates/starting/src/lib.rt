@@ -15,7 +15,7 @@ ghost use Rattle.cellfile.specs.Files.{cellsOf, stepsOf};
 ghost use Rattle.buffers.specs.Buffers.{lent};
 ghost use Rattle.starting.specs.Steps.{stepsOn, reduceSteps};
 ghost use Rattle.starting.specs.Starting.{ListThere, Loaded, slipRow, standRow, listStart, slipStart, Starts};
-ghost use Rattle.starting.specs.Starting.{courseOn, Takes};
+ghost use Rattle.starting.specs.Starting.{Settles, RefusedClears, courseOn, Takes};
 
 // A refusal; or the cells of the list, and as of `running::run` what stands in the buffers after the steps.
 pub enum Started {
@@ -94,8 +94,8 @@ fn start_list(
     }
 }
 
-// Refusals 1 to 8, then the steps of the slip on the list.
-pub fn start_slip(list: &[u8], slip: &[u8], work_a: &mut [u64], work_b: &mut [u64]) -> Started
+// Refusals 1 to 8, then the steps of the slip on the list; a refusal leaves anything in the buffers.
+fn begin_slip(list: &[u8], slip: &[u8], work_a: &mut [u64], work_b: &mut [u64]) -> Started
     ensures { λ r. ⌜ Starts (slipStart (now (list .entry)) (now (slip .entry))
         (lent (now («work_a» .entry)) (now («work_b» .entry)))) (now (list .entry))
         (stepsOn (now (list .entry)) (stepsOf (now (slip .entry)))) (now («work_a» .exit)) (now («work_b» .exit)) r ⌝ }
@@ -112,8 +112,8 @@ pub fn start_slip(list: &[u8], slip: &[u8], work_a: &mut [u64], work_b: &mut [u6
     }
 }
 
-// Refusals 1 to 6, then the steps that reduce takes on the list.
-pub fn start_reduce(list: &[u8], work_a: &mut [u64], work_b: &mut [u64]) -> Started
+// Refusals 1 to 6, then the steps that reduce takes on the list; a refusal leaves anything in the buffers.
+fn begin_reduce(list: &[u8], work_a: &mut [u64], work_b: &mut [u64]) -> Started
     ensures { λ r. ⌜ Starts (listStart (now (list .entry)) (lent (now («work_a» .entry)) (now («work_b» .entry))))
         (now (list .entry)) (some (reduceSteps (now (list .entry)))) (now («work_a» .exit)) (now («work_b» .exit)) r ⌝ }
 {
@@ -127,4 +127,50 @@ pub fn start_reduce(list: &[u8], work_a: &mut [u64], work_b: &mut [u64]) -> Star
         Checked::Refused(r) => Started::Refused(r),
         Checked::Accepted { n, m } => take_steps(list, n, m, list, 0, n, work_a, work_b),
     }
+}
+
+// Clears the buffers where the start was refused.
+fn settle(r: Started, work_a: &mut [u64], work_b: &mut [u64])
+    ensures { λ _. ⌜ Settles (now («work_a» .entry)) (now («work_b» .entry))
+        (now («work_a» .exit)) (now («work_b» .exit)) r ⌝ }
+{
+    match r {
+        Started::Refused(_) => {
+            buffers::clear(work_a);
+            buffers::clear(work_b);
+        }
+        Started::Done {
+            n: _,
+            slots: _,
+            trail: _,
+            carried: _,
+            steps: _,
+        } => {}
+    }
+}
+
+// Refusals 1 to 8, which leave the buffers zero; then the steps of the slip on the list.
+pub fn start_slip(list: &[u8], slip: &[u8], work_a: &mut [u64], work_b: &mut [u64]) -> Started
+    ensures starts { λ r. ⌜ Starts (slipStart (now (list .entry)) (now (slip .entry))
+        (lent (now («work_a» .entry)) (now («work_b» .entry)))) (now (list .entry))
+        (stepsOn (now (list .entry)) (stepsOf (now (slip .entry)))) (now («work_a» .exit)) (now («work_b» .exit)) r ⌝ }
+    ensures cleared { λ r. ⌜ RefusedClears (now («work_a» .entry)) (now («work_b» .entry))
+        (now («work_a» .exit)) (now («work_b» .exit)) r ⌝ }
+{
+    let r = begin_slip(list, slip, work_a, work_b);
+    settle(r, work_a, work_b);
+    r
+}
+
+// Refusals 1 to 6, which leave the buffers zero; then the steps that reduce takes on the list.
+pub fn start_reduce(list: &[u8], work_a: &mut [u64], work_b: &mut [u64]) -> Started
+    ensures starts { λ r. ⌜ Starts (listStart (now (list .entry))
+        (lent (now («work_a» .entry)) (now («work_b» .entry))))
+        (now (list .entry)) (some (reduceSteps (now (list .entry)))) (now («work_a» .exit)) (now («work_b» .exit)) r ⌝ }
+    ensures cleared { λ r. ⌜ RefusedClears (now («work_a» .entry)) (now («work_b» .entry))
+        (now («work_a» .exit)) (now («work_b» .exit)) r ⌝ }
+{
+    let r = begin_reduce(list, work_a, work_b);
+    settle(r, work_a, work_b);
+    r
 }

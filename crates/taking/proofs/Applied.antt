@@ -21,7 +21,7 @@ use Rattle.matching.specs.Best.{H, walk}
 use Rattle.matching.specs.Steps.{Rule, by-leaf, by-ring, by-chain, Step, leaf, ring, chain, leafed, ringed, chained}
 use Rattle.matching.specs.Steps.{outweighs}
 use Rattle.matching.specs.Shapes.{IsRow, IsLeaf, IsRing, IsChain, IsStep, first}
-use Rattle.matching.specs.Find.{Row}
+use Rattle.matching.specs.Find.{ReadRow}
 use Rattle.matching.proofs.Tests.{Test, pass, fail}
 use Rattle.matching.proofs.Members.{mem-head, mem-one, mem-apart, clash, Meets, Away, meetsT}
 use Rattle.matching.proofs.Sums.{each-all}
@@ -403,7 +403,7 @@ cell-of j q = ap (λ (x : Answer). getD (x .1) j 0) q
 inner-of : {e : ℕ} {w1 w2 : List ℕ} {u v f : ℕ} {cs : List ℕ} → Holds e w1 w2 → IsRow 1024 (graphOf e w1) u cs v
     → Ends 1024 (graphOf e w1) u v → f ≡ first v cs → innerAt e w1 u f ≡ cs
 inner-of {e} {w1} {u = u} h r end q =
-    ap (λ (j : ℕ). innerAt e w1 u j) q ∙ ap (λ (y : Row). y .0) (row-of (holds-graph h) r end)
+    ap (λ (j : ℕ). innerAt e w1 u j) q ∙ ap (λ (y : ReadRow). y .0) (row-of (holds-graph h) r end)
 
 pub found-step : {e : ℕ} {w1 w2 : List ℕ} → Holds e w1 w2 → (r : Rule) (c : ℕ) {s : Step}
     → IsStep 1024 (graphOf e w1) r c s → {x : Found} → Finds e w1 (some s) x → stepOf (graphOf e w1) x ≡ some s
@@ -434,7 +434,7 @@ found-step {e} {w1} h r c {s} p {x} m = go (x .step) s (m .step) p (m .way)
     go found.None (chain u′ v′ z′ cs) q p m = absurd (omega (arith, rule-of q))
 
 -- What is known of the step that was found.
-record Stands (e : ℕ) (w1 w2 : List ℕ) (t : ℕ) (x : Found) (s : Step) : Type 0 where
+record FoundStep (e : ℕ) (w1 w2 : List ℕ) (t : ℕ) (x : Found) (s : Step) : Type 0 where
   rule : Rule
   cell : ℕ
   is : IsStep 1024 (graphOf e w1) rule cell s
@@ -454,9 +454,9 @@ module _ {e : ℕ} {w1 w2 : List ℕ} {t : ℕ} {x : Found} (h : StepThere e w1 
       ap (λ k. asStep k (λ u. innerAt e w1 u (x .first))) (sym q)
       ∙ found-step (h .holds) (h .rule) (h .cell) (h .is) (h .finds)
 
-  stands : {s : Step} → some s ≡ some (h .step) → Stands e w1 w2 t x s
+  stands : {s : Step} → some s ≡ some (h .step) → FoundStep e w1 w2 t x s
   stands {s} q =
-      subst (Stands e w1 w2 t x) (let k : h .step ≡ s = cc in k)
+      subst (FoundStep e w1 w2 t x) (let k : h .step ≡ s = cc in k)
       (record { rule = h .rule; cell = h .cell; is = h .is; way = h .finds .way; room = h .room })
 
   pub leaf-found : {v u : ℕ} → x .step ≡ found.Leaf v u → LeafThere e w1 w2 t v u (x .slot)

@@ -1,5 +1,5 @@
 -- The row of a ring or a chain is taken pair by pair. In order: words that did not change (`take-same`, `drop-same`); what
--- one pair taken leaves (`pair-taken`); the rest of the row while it is taken (`Ahead`, `Going`), where it starts, what it gives
+-- one pair taken leaves (`pair-taken`); the rest of the row while it is taken (`RowAhead`, `Going`), where it starts, what it gives
 -- the next pair, how it goes on and how it ends (`going-start`, `going-two`, `going-pair`, `going-on`, `going-end`).
 -- Assumes nothing.
 use mathlib.Core.Path.{_≡_, refl, sym, ap, subst, _∙_}
@@ -77,7 +77,7 @@ pair-taken {e} {w1} {w2} {w1′} {w2′} {t} {prev} {i} {x} p h q l z = record {
 
 -- The pairs of the row from u over `inner` to v were in the first buffer w1₀, and k of them are taken: what is left is
 -- the run from prev over `rest` to v, and slot joins its first two cells.
-pub record Ahead (e : ℕ) (w1₀ w2₀ : List ℕ) (t u : ℕ) (inner : List ℕ) (v : ℕ) (w1 w2 : List ℕ) (prev slot k : ℕ)
+pub record RowAhead (e : ℕ) (w1₀ w2₀ : List ℕ) (t u : ℕ) (inner : List ℕ) (v : ℕ) (w1 w2 : List ℕ) (prev slot k : ℕ)
     (rest : List ℕ) : Type 0 where
   pub holds : Holds e w1 w2
   pub run : Run 1024 (graphOf e w1) prev rest v
@@ -98,7 +98,7 @@ pub record Going (e : ℕ) (w1₀ w2₀ : List ℕ) (t u : ℕ) (inner : List �
     : Type 0 where
   pub rest : List ℕ
   pub next : at ≡ first v rest
-  pub ahead : Ahead e w1₀ w2₀ t u inner v w1 w2 prev slot k rest
+  pub ahead : RowAhead e w1₀ w2₀ t u inner v w1 w2 prev slot k rest
 
 pub going-start : {e : ℕ} {w1 w2 : List ℕ} {t u f i v : ℕ} → RowThere e w1 w2 t u f i v
     → Going e w1 w2 t u (innerAt e w1 u f) v w1 w2 u f i 0
@@ -124,17 +124,17 @@ going-start {e} {w1} {w2} {t} {u} {f} {i} {v} r = record {
 
 module _ {e : ℕ} {w1₀ w2₀ : List ℕ} {t u : ℕ} {inner : List ℕ} {v : ℕ} {w1 w2 : List ℕ} {prev slot k : ℕ} where
   -- the next cell has two partners
-  ahead-two : (rest : List ℕ) → Ahead e w1₀ w2₀ t u inner v w1 w2 prev slot k rest → first v rest ≢ v
+  ahead-two : (rest : List ℕ) → RowAhead e w1₀ w2₀ t u inner v w1 w2 prev slot k rest → first v rest ≢ v
       → (k < length inner) × (length (partners 1024 (graphOf e w1) (first v rest)) ≡ 2)
   ahead-two [] a n = absurd (n refl)
   ahead-two (c ∷ cs) a n = (omega (arith, a .count), a .run .0 .two)
 
   -- the next pair
-  ahead-pair : (rest : List ℕ) → Ahead e w1₀ w2₀ t u inner v w1 w2 prev slot k rest
+  ahead-pair : (rest : List ℕ) → RowAhead e w1₀ w2₀ t u inner v w1 w2 prev slot k rest
       → (prev < 1024) × (first v rest < 1024)
   ahead-pair rest a = pair-below (holds-graph (a .holds)) prev (first v rest) (joins-pair (a .holds) (a .joins))
 
-  module _ {c : ℕ} {cs : List ℕ} (a : Ahead e w1₀ w2₀ t u inner v w1 w2 prev slot k (c ∷ cs)) {r : Other}
+  module _ {c : ℕ} {cs : List ℕ} (a : RowAhead e w1₀ w2₀ t u inner v w1 w2 prev slot k (c ∷ cs)) {r : Other}
       (n : Next e w1 c prev r) {w1′ w2′ : List ℕ} (p : PairTaken e w1 w2 w1′ w2′ (t + k) prev slot) where
     abbrev g : Points
     g = graphOf e w1
@@ -240,7 +240,7 @@ module _ {e : ℕ} {w1₀ w2₀ : List ℕ} {t u : ℕ} {inner : List ℕ} {v : 
       → Going e w1₀ w2₀ t u inner v w1′ w2′ at (r .partner) (r .slot) (k + 1)
   going-on d {r} n {w1′} {w2′} p = go (h .rest) (h .next) (h .ahead)
     where
-      go : (rest : List ℕ) → at ≡ first v rest → Ahead e w1₀ w2₀ t u inner v w1 w2 prev slot k rest
+      go : (rest : List ℕ) → at ≡ first v rest → RowAhead e w1₀ w2₀ t u inner v w1 w2 prev slot k rest
           → Going e w1₀ w2₀ t u inner v w1′ w2′ at (r .partner) (r .slot) (k + 1)
       go [] q a = absurd (d q)
       go (c ∷ cs) q a = rw q (ahead-on a (rw (← q) n) p)
@@ -252,7 +252,7 @@ going-end {e} {w1₀} {w2₀} {t} {u} {f} {i} {v} r {w1} {w2} {prev} {at} {slot}
     go (h .rest) (h .next) (h .ahead)
   where
     go : (rest : List ℕ) → at ≡ first v rest
-        → Ahead e w1₀ w2₀ t u (innerAt e w1₀ u f) v w1 w2 prev slot k rest → RowTaken e w1₀ w2₀ w1′ w2′ t u f v (k + 1)
+        → RowAhead e w1₀ w2₀ t u (innerAt e w1₀ u f) v w1 w2 prev slot k rest → RowTaken e w1₀ w2₀ w1′ w2′ t u f v (k + 1)
     go (c ∷ cs) q a = absurd (mem-not v c cs (a .last-off) .0 (sym q ∙ z))
     go [] q a = record {
       count = omega (arith, a .count);

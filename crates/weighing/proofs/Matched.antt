@@ -20,10 +20,10 @@ use Rattle.cellfile.specs.declared.decode.PairEntry.{PairEntry}
 use Rattle.cellfile.proofs.Walk.{from, from-start, from-end, from-next}
 
 -- an entry before the first pair is passed
-below : (e : listed.Entry) (es : List listed.Entry) (p : Pair) (ps : List Pair) (found : ℕ)
+merged-passed : (e : listed.Entry) (es : List listed.Entry) (p : Pair) (ps : List Pair) (found : ℕ)
     → ltb (key (p .0) (p .1)) (key (e .0) (e .1)) ≡ false → eqb (key (e .0) (e .1)) (key (p .0) (p .1)) ≡ false
     → merged (e ∷ es) (p ∷ ps) found ≡ merged es (p ∷ ps) found
-below e es p ps found a b = rw (a, b)
+merged-passed e es p ps found a b = rw (a, b)
 
 module _ (list other : List ℕ) (m k : ℕ) where
   -- the merge from places i and j on, with what was found before
@@ -81,7 +81,7 @@ module _ (list other : List ℕ) (m k : ℕ) where
           pub merged-below : (have ≡ want → ⊥) → mergedFrom i j found ≡ mergedFrom (i + 1) j found
           merged-below s =
               rw (from-next (storeList .entry) list 4 m i l, from-next (pairing .entry) other 4 k j more)
-              (below (asEntry (readRecord (storeList .entry) (drop (4 + 5 * i) list)))
+              (merged-passed (asEntry (readRecord (storeList .entry) (drop (4 + 5 * i) list)))
               (map asEntry (from (storeList .entry) list 4 m (i + 1)))
               (asPair (readRecord (pairing .entry) (drop (4 + 3 * j) other)))
               (map asPair (from (pairing .entry) other 4 k (j + 1))) found

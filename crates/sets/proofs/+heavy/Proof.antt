@@ -13,7 +13,7 @@ use Rattle.sets.specs.Tries.{partnered}
 use Rattle.sets.proofs.Places.{without-first, fewer-first, next-within, fewer-next}
 use Rattle.sets.proofs.Heaviest.{points-none, points-light}
 use Rattle.sets.proofs.Tried.{Tried, had-first, had-out, had-light, had-worse, had-better, tried-all}
-use Rattle.sets.proofs.Known.{known-more, Kept, kept-none, kept-call, kept-all, ready-less}
+use Rattle.sets.proofs.Known.{known-more, KeptKnown, kept-none, kept-call, kept-all, ready-less}
 use Rattle.sets.proofs.heavy.Reads as heavy
 use Rattle.sets.proofs.heavy.Kinds as heavy-kinds
 use Rattle.sets.proofs.+heavy.Lts-heavy as heavy-lts
@@ -37,7 +37,7 @@ calls t =
     (lowest-reads.Asked, lowest-reads.Learnt, single-reads.Asked, single-reads.Learnt, heavy-below t, heavy.Post)
 
 abbrev heavy-Inv-loop : heavy-lts.InvT-loop
-heavy-Inv-loop ws w1₀ s have c rest best₀ p₀ w1 best p = Kept ws w1₀ w1 × Tried ws c rest p best
+heavy-Inv-loop ws w1₀ s have c rest best₀ p₀ w1 best p = KeptKnown ws w1₀ w1 × Tried ws c rest p best
 
 abbrev heavy-μ-loop : heavy-lts.MeasureT-loop
 heavy-μ-loop ws w1₀ s have c rest best₀ p₀ w1 best p = 12 - p
@@ -52,7 +52,7 @@ abbrev begun : (t : ℕ) → Turn t → Begin t
 begun t l = l .before .before .before .before .before .before .before .before .before .before .before .before
 
 -- what the loop has kept of the buffer as it was lent
-kept-so-far : (t : ℕ) (l : Turn t) → Kept (begun t l .args .ws .now) (begun t l .args .w1 .now) (l .loop .w1)
+kept-so-far : (t : ℕ) (l : Turn t) → KeptKnown (begun t l .args .ws .now) (begun t l .args .w1 .now) (l .loop .w1)
 kept-so-far t l =
     let h = l .before .before .before .heavy in
     kept-all (kept-call (h .kept .1 .0) (h .ensures .1) (h .ensures .2)) (l .loop .inv .0)

@@ -7,13 +7,13 @@ use Rattle.sets.proofs.Places.{next-within}
 use Rattle.sets.proofs.Heaviest.{points-light}
 use Rattle.sets.proofs.Tried.{Had, had-first, had-out, had-light, had-worse, had-better, had-last, partner-none}
 use Rattle.sets.proofs.Tried.{partner-is}
-use Rattle.sets.proofs.Known.{Kept, kept-none, kept-call, kept-all, ready-less}
+use Rattle.sets.proofs.Known.{KeptKnown, kept-none, kept-call, kept-all, ready-less}
 use Rattle.sets.proofs.partner_of.Statement.{statement}
 use Rattle.sets.proofs.partner_of.Tie as tie
 
 abbrev Inv-loop : tie.InvT-loop
 Inv-loop ws w1₀ c rest had₀ partner₀ p₀ w1 had partner p =
-    Kept ws w1₀ w1 × Had ws c rest p had (partnered ws c rest partner) × Partner rest partner
+    KeptKnown ws w1₀ w1 × Had ws c rest p had (partnered ws c rest partner) × Partner rest partner
 
 abbrev μ-loop : tie.MeasureT-loop
 μ-loop ws w1₀ c rest had₀ partner₀ p₀ w1 had partner p = 12 - p
@@ -25,7 +25,7 @@ abbrev begun : Turn → tie.Start Inv-loop μ-loop
 begun l = l .before .before .before .before .before .before .before
 
 -- what the loop has kept of the buffer as it was lent
-kept-so-far : (l : Turn) → Kept (begun l .args .ws .now) (begun l .args .w1 .now) (l .loop .w1)
+kept-so-far : (l : Turn) → KeptKnown (begun l .args .ws .now) (begun l .args .w1 .now) (l .loop .w1)
 kept-so-far l =
     let h = l .before .before .before .heavy in
     kept-all (kept-call (h .kept .1 .0) (h .ensures .1) (h .ensures .2)) (l .loop .inv .0)

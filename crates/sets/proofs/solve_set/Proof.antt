@@ -6,7 +6,7 @@ use mathlib.Core.Path.{_≡_}
 use lib.ListN.{length}
 use Rattle.sets.specs.Sets.{inSet}
 use Rattle.sets.proofs.Places.{without-first, fewer-first, next-within, fewer-next}
-use Rattle.sets.proofs.Known.{Kept, kept-call}
+use Rattle.sets.proofs.Known.{KeptKnown, kept-call}
 use Rattle.sets.proofs.Found.{Found, found-none, found-ready, found-alone, found-pair, found-all}
 use Rattle.sets.proofs.solve_set.Statement.{statement}
 use Rattle.sets.proofs.solve_set.Tie as tie
@@ -33,7 +33,7 @@ turn a = a .before .before .before .before .before
 abbrev rest-of : Asked → ℕ
 rest-of a = turn a .loop .left - a .before .before .single .result
 
-kept-turn : (a : Asked) → Kept (begun (turn a) .args .ws .now) (turn a .loop .w1) (a .partner-of .last .1 .0)
+kept-turn : (a : Asked) → KeptKnown (begun (turn a) .args .ws .now) (turn a .loop .w1) (a .partner-of .last .1 .0)
 kept-turn a =
     let r = a .partner-of in
     kept-call (r .kept .1 .0) (r .ensures .2) (r .ensures .3)

@@ -1,7 +1,7 @@
 -- `take_steps` hands on what the loop answers.
 use mathlib.Core.Path.{subst}
 use Rattle.running.specs.Running.{Runs}
-use Rattle.starting.proofs.Courses.{run-there}
+use Rattle.starting.proofs.OnList.{run-there}
 use Rattle.starting.proofs.Starts.{takes-refused, takes-done}
 use borrow.Author.Needs.{needs}
 use Rattle.starting.proofs.take_steps.Statement.{statement}
@@ -31,7 +31,7 @@ returns : tie.Need-returns
 returns c =
     let p = c .before .before .before .before .before .before .before .before .before .before .before .before .before .before .before .before .before .before .before .before .before .pre in
     let a = c .before .before .before .before .before .before .before .before .before .before .before .before .before .before .before .before .before .before .before .before .before .args in
-    let d = subst (Runs _ _ _ _ _ _) (c .before .r .given .1) (c .before .before .before .before .before .before .before .run .ensures) in
+    let d = subst (Runs _ _ _ _ _ _ _ _) (c .before .r .given .1) (c .before .before .before .before .before .before .before .run .ensures) in
     takes-refused (a .list .now) (a .slip .now) (p .1) (c .before .before .before .before .before .before .before .before .before .before .before .before .before .before .load-list .ensures) (a .k) (a .more) _ _ (d .0) (d .1)
 
 same-length-3 : tie.Need-same-length-3
@@ -44,7 +44,7 @@ returns-2 : tie.Need-returns-2
 returns-2 c =
     let p = c .before .before .before .before .before .before .before .before .before .before .before .before .before .before .before .before .before .before .before .before .before .pre in
     let a = c .before .before .before .before .before .before .before .before .before .before .before .before .before .before .before .before .before .before .before .before .before .args in
-    let d = subst (Runs _ _ _ _ _ _) (c .before .slots .given .1) (c .before .before .before .before .before .before .before .run .ensures) in
+    let d = subst (Runs _ _ _ _ _ _ _ _) (c .before .slots .given .1) (c .before .before .before .before .before .before .before .run .ensures) in
     takes-done (a .list .now) (a .slip .now) (p .1) (c .before .before .before .before .before .before .before .before .before .before .before .before .before .before .load-list .ensures) (a .k) (a .more) (p .0 .accepted) d
 
 pub take-steps-spec : {M : Type 1} → statement M

@@ -23,7 +23,7 @@ lift-tail-requires : tie.Need-lift-tail-requires
 lift-tail-requires c κs =
     let at-start = c .before .before .before .before .before .before .before .before .before .before in
     let a = at-start .before .before .before .before .before .before .before .before .before .args in
-    let s = subst (Starts _ _ _ _ _) (c .before .before .before .before .n .given .1) (at-start .start-slip .ensures) in
+    let s = subst (Starts _ _ _ _ _) (c .before .before .before .before .n .given .1) (at-start .start-slip .ensures .0) in
     start-there (a .list .now) (a .slip .now) (started _ _ _ _ _ _ _ _ _ _ s .1)
 
 same-length : tie.Need-same-length
@@ -36,7 +36,7 @@ returns : tie.Need-returns
 returns c =
     let at-start = c .before .before .before .before .before .before .before in
     let a = at-start .before .before .before .before .before .before .before .before .before .args in
-    let s = subst (Starts _ _ _ _ _) (c .before .k .given .1) (at-start .start-slip .ensures) in
+    let s = subst (Starts _ _ _ _ _) (c .before .k .given .1) (at-start .start-slip .ensures .0) in
     refused (slipStart (a .list .now) (a .slip .now) (lent (a .work-a .now) (a .work-b .now))) (_ ∷ _ ∷ []) 0 []
     (not-started _ _ _ _ _ _ s) (refl, tt)
 
@@ -55,7 +55,7 @@ returns-2 c =
     let at-start = at-tail .before .before .before .before .before .before .before .before .before .before .before in
     let a = at-start .before .before .before .before .before .before .before .before .before .args in
     let at-n = at-tail .before .before .before .before .before in
-    let s = subst (Starts _ _ _ _ _) (at-n .n .given .1) (at-start .start-slip .ensures) in
+    let s = subst (Starts _ _ _ _ _) (at-n .n .given .1) (at-start .start-slip .ensures .0) in
     let d = started _ _ _ _ _ _ _ _ _ _ s in
     lift-passed (a .list .now) (a .slip .now) (d .1) (lent (a .work-a .now) (a .work-b .now)) (d .0)
     (a .pairing .now) (a .lifted .now) (at-tail .lift-tail .ensures)

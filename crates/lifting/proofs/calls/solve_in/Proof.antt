@@ -22,7 +22,7 @@ solve-tail-requires c κs =
     let at-n = c .before .before .before .before in
     let at-start = at-n .before .before .before .before .before .before in
     let a = at-start .before .before .before .before .before .before .before .before .args in
-    let s = subst (Starts _ _ _ _ _) (at-n .n .given .1) (at-start .start-slip .ensures) in
+    let s = subst (Starts _ _ _ _ _) (at-n .n .given .1) (at-start .start-slip .ensures .0) in
     solve-left (a .list .now) (a .slip .now) (started _ _ _ _ _ _ _ _ _ _ s .1)
 
 same-length : tie.Need-same-length
@@ -35,7 +35,7 @@ returns : tie.Need-returns
 returns c =
     let at-start = c .before .before .before .before .before .before .before in
     let a = at-start .before .before .before .before .before .before .before .before .args in
-    let s = subst (Starts _ _ _ _ _) (c .before .k .given .1) (at-start .start-slip .ensures) in
+    let s = subst (Starts _ _ _ _ _) (c .before .k .given .1) (at-start .start-slip .ensures .0) in
     solve-refused (a .list .now) (a .slip .now) (lent (a .work-a .now) (a .work-b .now)) (a .pairing .now)
     (not-started _ _ _ _ _ _ s)
 
@@ -54,7 +54,7 @@ returns-2 c =
     let at-n = at-tail .before .before .before .before .before in
     let at-start = at-n .before .before .before .before .before .before in
     let a = at-start .before .before .before .before .before .before .before .before .args in
-    let s = subst (Starts _ _ _ _ _) (at-n .n .given .1) (at-start .start-slip .ensures) in
+    let s = subst (Starts _ _ _ _ _) (at-n .n .given .1) (at-start .start-slip .ensures .0) in
     let d = started _ _ _ _ _ _ _ _ _ _ s in
     solve-passed (a .list .now) (a .slip .now) (d .1) (lent (a .work-a .now) (a .work-b .now)) (d .0)
     (a .pairing .now) (at-tail .solve-tail .ensures)

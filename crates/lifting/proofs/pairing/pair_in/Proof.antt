@@ -28,7 +28,7 @@ pair-tail-requires : tie.Need-pair-tail-requires
 pair-tail-requires c κs =
     let m = c .before .before .before .before in
     let start = m .before .before .before .before .before .before in
-    let s = subst (Starts _ _ _ _ _) (m .n .given .1) (start .start-reduce .ensures) in
+    let s = subst (Starts _ _ _ _ _) (m .n .given .1) (start .start-reduce .ensures .0) in
     let a = start .before .before .before .before .before .before .before .args in
     reduce-tail (a .list .now) (started _ _ _ _ _ _ _ _ _ _ s .1)
 
@@ -42,7 +42,7 @@ returns : tie.Need-returns
 returns c =
     let start = c .before .before .before .before .before .before .before in
     let a = start .before .before .before .before .before .before .before .args in
-    let s = subst (Starts _ _ _ _ _) (c .before .k .given .1) (start .start-reduce .ensures) in
+    let s = subst (Starts _ _ _ _ _) (c .before .k .given .1) (start .start-reduce .ensures .0) in
     refused (listStart (a .list .now) (lent (a .work-a .now) (a .work-b .now)))
     (crowdedRow (cellsLeft (cellsOf (a .list .now)) (graphAfter (a .list .now) (reduceSteps (a .list .now)))) ∷ []) 0 []
     (not-started _ _ _ _ _ _ s) (refl, tt)
@@ -62,7 +62,7 @@ returns-2 c =
     let m = t .before .before .before .before .before in
     let start = m .before .before .before .before .before .before in
     let a = start .before .before .before .before .before .before .before .args in
-    let s = subst (Starts _ _ _ _ _) (m .n .given .1) (start .start-reduce .ensures) in
+    let s = subst (Starts _ _ _ _ _) (m .n .given .1) (start .start-reduce .ensures .0) in
     let d = started _ _ _ _ _ _ _ _ _ _ s in
     pair-passed (a .list .now) (d .1) (lent (a .work-a .now) (a .work-b .now)) (d .0) (a .out .now)
     (t .pair-tail .ensures)

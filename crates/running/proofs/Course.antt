@@ -1,4 +1,4 @@
--- The course of steps. In order: a course by its next step (`Ahead`, `course-on`, `course-refused`, `course-ends`,
+-- The course of steps. In order: a course by its next step (`OneLess`, `course-on`, `course-refused`, `course-ends`,
 -- `course-out`); steps before a course (`behind-append`, `behind-nil`); the step that comes next is found by its name
 -- (`next-named`); the trail of steps, one behind the other (`trail-append`), has room (`trail-room`).
 use mathlib.Core.Path.{_≡_, refl, sym, ap, subst}
@@ -12,18 +12,18 @@ use Rattle.matching.specs.Steps.{Rule, Step, apply, name}
 use Rattle.matching.specs.Find.{stepAt}
 use Rattle.matching.specs.Slip.{reduce}
 use Rattle.matching.proofs.Find.{step-is, step-name, first-step-is}
-use Rattle.matching.proofs.Course.{behind}
+use Rattle.matching.proofs.Behind.{behind}
 use Rattle.running.specs.Course.{course}
 use Rattle.running.specs.Running.{nextStep}
 
 -- ---- a course by its next step
 
 -- One name less, or without names one step less to go.
-abbrev pub Ahead : List (Rule × ℕ) → ℕ → List (Rule × ℕ) → ℕ → Type 0
-Ahead rs k rs′ k′ = ((r : Rule × ℕ) × (rs ≡ r ∷ rs′) × (k ≡ k′)) ⊎ ((rs ≡ []) × (rs′ ≡ []) × (k ≡ suc k′))
+abbrev pub OneLess : List (Rule × ℕ) → ℕ → List (Rule × ℕ) → ℕ → Type 0
+OneLess rs k rs′ k′ = ((r : Rule × ℕ) × (rs ≡ r ∷ rs′) × (k ≡ k′)) ⊎ ((rs ≡ []) × (rs′ ≡ []) × (k ≡ suc k′))
 
 pub course-on : (n : ℕ) (w : Points) (rs : List (Rule × ℕ)) (k : ℕ) (rs′ : List (Rule × ℕ)) (k′ : ℕ) (s : Step)
-    → Ahead rs k rs′ k′ → nextStep n w rs ≡ some s → course n w rs k ≡ behind (s ∷ []) (course n (apply w s) rs′ k′)
+    → OneLess rs k rs′ k′ → nextStep n w rs ≡ some s → course n w rs k ≡ behind (s ∷ []) (course n (apply w s) rs′ k′)
 course-on n w rs k rs′ k′ s (inl (r, e, q)) h =
     rw (e, q) (ap go (rw e at h))
   where

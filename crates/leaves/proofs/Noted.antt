@@ -15,7 +15,7 @@ use Rattle.slots.specs.Slots.{Holds, graphOf, Changed, lessAll}
 use Rattle.slots.proofs.Holding.{holds-room, holds-aside}
 use Rattle.finding.specs.Bounds.{Quiet}
 use Rattle.taking.specs.Trail.{closing}
-use Rattle.leaves.specs.Runs.{RunThere, Slack, Due, Words, Owes, Taken}
+use Rattle.leaves.specs.Runs.{LeafRunThere, Slack, Due, Words, Owes, Taken}
 use Rattle.leaves.specs.declared.Owed.{Owed}
 use Rattle.leaves.proofs.Owing.{Owing, owing-start, owing-pass, owing-take, owing-quiet}
 use Rattle.leaves.proofs.Noting.{words-start, words-on, words-kept}
@@ -30,7 +30,7 @@ pub record Running (n e u room t k most : ℕ) (w1 w2 w2′ : List ℕ) (c p j :
   pub count : j ≡ length cells
   pub few : j ≤ most
 
-module _ {n e u c₀ t k most : ℕ} {w1 w2 : List ℕ} (h : RunThere n e u c₀ t k most w1 w2) where
+module _ {n e u c₀ t k most : ℕ} {w1 w2 : List ℕ} (h : LeafRunThere n e u c₀ t k most w1 w2) where
   pub running-start : {room : ℕ} → Slack (graphOf e w1) u room → Running n e u room t k most w1 w2 w2 c₀ 0 0
   running-start s = record {
     cells = [];

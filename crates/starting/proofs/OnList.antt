@@ -39,13 +39,11 @@ use Rattle.running.specs.Running.{RunThere, After}
 use Rattle.starting.specs.Starting.{ListThere, Loaded}
 use Rattle.running.specs.Pairs.{PairsLeft}
 use Rattle.running.proofs.Listing.{holds-pairs}
+use Rattle.matching.proofs.Behind.{behind}
 
 -- The step, and the steps that follow it.
-abbrev behind : Step → Option (List Step) → Option (List Step)
-behind s o = elim o [ none ↦ none | some ss ↦ some (s ∷ ss) ]
-
 abbrev onward : Option Step → (Step → Option (List Step)) → Option (List Step)
-onward o rest = elim o [ none ↦ none | some s ↦ behind s (rest s) ]
+onward o rest = elim o [ none ↦ none | some s ↦ behind (s ∷ []) (rest s) ]
 
 pub course-replay : (n : ℕ) (w : Points) (rs : List (Rule × ℕ)) → course n w rs 0 ≡ replay n w rs
 course-replay n w [] = refl
@@ -54,7 +52,7 @@ course-replay n w (r ∷ rs) = go (stepAt n w (r .0) (r .1)) (λ s. course-repla
     go : (o : Option Step) → ((s : Step) → course n (apply w s) rs 0 ≡ replay n (apply w s) rs)
         → onward o (λ s. course n (apply w s) rs 0) ≡ onward o (λ s. replay n (apply w s) rs)
     go none i = refl
-    go (some s) i = ap (behind s) (i s)
+    go (some s) i = ap (behind (s ∷ [])) (i s)
 
 -- ---- the cells of steps
 
