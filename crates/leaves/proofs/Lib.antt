@@ -2,4 +2,4 @@
 pub mod Owing
 pub mod Slacks
 pub mod Noting
-pub mod Noted
+pub mod Passing

@@ -3,6 +3,7 @@
 // While leaves of u go one after the other, in the order in which reduce takes them, the pairs at u have lost together
 // the points of the last leaf's pair as it was at the start. So the graph stays as it is during a run, and every pair at
 // u loses that much once, at its end.
+use finding::bounds;
 use slots::change;
 use slots::read;
 use taking;
@@ -19,15 +20,6 @@ ghost use Rattle.leaves.specs.Runs.{FirstLeaf, KeptPoints, Slack, Due, L
 
 // More than any points.
 const ABOVE_ALL: u64 = 17592186044416;
-
-fn smaller(a: u64, b: u64) -> u64
-    ensures { λ r. ⌜ r ≡ min a b ⌝ }
-{
-    if a < b {
-        return a;
-    }
-    b
-}
 
 // The first cell from `low` on that is a leaf, or one not below n. No cell below `low` is a leaf.
 fn first_leaf(w1: &[u64], w2: &[u64], e: usize, n: usize, low: usize) -> usize
@@ -71,14 +63,14 @@ fn slack(w1: &[u64], w2: &[u64], e: usize, u: usize) -> u64
     let mut i = read::last_slot(w1, w2, e, u);
     while 0 < i {
         i -= 1;
-        least = smaller(least, kept(w1, w2, e, u, i));
+        least = bounds::lower(least as usize, kept(w1, w2, e, u, i) as usize) as u64;
         let points = w1[i];
         i = read::slot_before(w1, w2, e, u, i);
         if most < points {
             most = points;
         }
     }
-    smaller(least, most)
+    bounds::lower(least as usize, most as usize) as u64
 }
 
 // The points of c's only pair where it is with u; 0 where c is no leaf; more than any points where it is another cell's.

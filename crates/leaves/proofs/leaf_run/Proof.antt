@@ -1,7 +1,7 @@
 -- `leaf_run` by the first leaf and the degree of its partner.
 use native.Mathlib.Omega.{arith}
 use borrow.Author.Needs.{needs}
-use Rattle.leaves.proofs.Noted.{run-none}
+use Rattle.leaves.proofs.Passing.{run-none}
 use Rattle.leaves.proofs.leaf_run.Statement.{statement}
 use Rattle.leaves.proofs.leaf_run.Tie as tie
 

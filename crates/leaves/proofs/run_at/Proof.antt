@@ -1,6 +1,6 @@
 -- `run_at` takes the run, and then what is owed from the pairs at u.
 use mathlib.Core.Path.{_∙_}
-use Rattle.leaves.proofs.Noted.{run-quiet, run-taken, quiet-zero}
+use Rattle.leaves.proofs.Passing.{run-quiet, run-taken, quiet-zero}
 use borrow.Author.Needs.{needs}
 use Rattle.leaves.proofs.run_at.Statement.{statement}
 use Rattle.leaves.proofs.run_at.Tie as tie

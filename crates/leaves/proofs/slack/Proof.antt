@@ -29,8 +29,8 @@ kept-requires c κs =
     let q : l .i ≡ suc (l .i - 1) = omega (arith, c .loop-test .taken) in
     (c .before .before .before .before .before .pre .0, omega (arith, l .inv .top, q), l .inv .has _ q)
 
-smaller-requires : tie.Need-smaller-requires Inv-loop μ-loop
-smaller-requires c κs = tt
+lower-requires : tie.Need-lower-requires Inv-loop μ-loop
+lower-requires c κs = tt
 
 mul-points : tie.Need-mul-points Inv-loop μ-loop
 mul-points c =
@@ -64,7 +64,7 @@ loop-again c =
     let s = c .before .before .before .before .before .before .before .before .before .before in
     let q : l .i ≡ suc (l .i - 1) = omega (arith, c .before .before .before .before .before .loop-test .taken) in
     slacks-on (s .pre .0) (rw q at (l .inv)) (c .before .before .before .before .kept .ensures)
-    (c .before .before .before .smaller .ensures) (c .before .slot-before .ensures)
+    (c .before .before .before .lower .ensures) (c .before .slot-before .ensures)
     (stays-on (s .pre .0) (s .args .u) (l .i - 1) (omega (arith, l .inv .top, q)) (l .inv .has _ q)
     (omega (arith, c .if1 .taken)))
 
@@ -82,16 +82,16 @@ loop-again-2 c =
     let s = c .before .before .before .before .before .before .before .before .before .before in
     let q : l .i ≡ suc (l .i - 1) = omega (arith, c .before .before .before .before .before .loop-test .taken) in
     slacks-on (s .pre .0) (rw q at (l .inv)) (c .before .before .before .before .kept .ensures)
-    (c .before .before .before .smaller .ensures) (c .before .slot-before .ensures) (l .inv .stays)
+    (c .before .before .before .lower .ensures) (c .before .slot-before .ensures) (l .inv .stays)
 
-smaller-requires-2 : tie.Need-smaller-requires-2 Inv-loop μ-loop
-smaller-requires-2 c κs = tt
+lower-requires-2 : tie.Need-lower-requires-2 Inv-loop μ-loop
+lower-requires-2 c κs = tt
 
 returns : tie.Need-returns Inv-loop μ-loop
 returns c =
     let l = c .before .before .loop in
     let z : l .i ≡ 0 = omega (arith, c .before .loop-test .left) in
-    slacks-end (c .before .before .before .before .before .before .pre .0) (rw z at (l .inv)) (c .smaller2 .ensures)
+    slacks-end (c .before .before .before .before .before .before .pre .0) (rw z at (l .inv)) (c .lower2 .ensures)
 
 pub slack-spec : {M : Type 1} → statement M
 slack-spec =
@@ -103,7 +103,7 @@ slack-spec =
     loop-holds
     sub-i
     kept-requires
-    smaller-requires
+    lower-requires
     mul-points
     shared-slice-read-points
     slot-before-requires
@@ -111,5 +111,5 @@ slack-spec =
     loop-again
     loop-less-2
     loop-again-2
-    smaller-requires-2
+    lower-requires-2
     returns)

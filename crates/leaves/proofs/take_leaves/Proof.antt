@@ -4,7 +4,7 @@ use Prim.Native.Nat.{_-_}
 use native.Mathlib.Omega.{arith}
 use lib.ListN.{length}
 use Rattle.slots.proofs.Holding.{holds-room}
-use Rattle.leaves.proofs.Noted.{Running, running-start, running-pass, running-take, running-end}
+use Rattle.leaves.proofs.Passing.{Running, running-start, running-pass, running-take, running-end}
 use Rattle.leaves.proofs.take_leaves.Statement.{statement}
 use Rattle.leaves.proofs.take_leaves.Tie as tie
 
