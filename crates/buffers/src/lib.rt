@@ -1,4 +1,4 @@
-// The work buffers lent to a call. An inner function of every call.
+// Inner, for every call: the work buffers lent to it.
 ghost use Rattle.buffers.specs.Buffers.{Cleared};
 
 // Every word is zero afterwards, whatever the length.

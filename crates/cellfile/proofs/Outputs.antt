@@ -44,7 +44,8 @@ put-down (suc k) v out h =
       append-assoc,
     )
 
-pub down-next : (k v : ℕ) (out : List ℕ) → 0 < k → putDown k v out ≡ putDown (k - 1) (v / 256) (set out (k - 1) (v % 256))
+pub down-next : (k v : ℕ) (out : List ℕ) → 0 < k → putDown k v out ≡ putDown (k - 1) (v / 256)
+    (set out (k - 1) (v % 256))
 down-next k v out h =
     let e : k ≡ suc (k - 1) = omega arith in
     ap (λ i. putDown i v out) e
@@ -109,7 +110,8 @@ pub length-taken : (k : ℕ) (ws : List ℕ) (i : ℕ) → i ≤ length ws → l
 length-taken k ws i h = length-words k (take i ws) ∙ ap (λ j. k * j) (length-take-le i ws h)
 
 -- words are records
-words-records : (ws words : List ℕ) → WholeBytes ws → wordBytes (size ws) words ≡ writeRecords ws (map (fields ws) words)
+words-records : (ws words : List ℕ) → WholeBytes ws → wordBytes (size ws) words ≡ writeRecords ws
+    (map (fields ws) words)
 unfolding wordBytes writeRecords
 words-records ws [] whole = refl
 words-records ws (w ∷ words) whole = rw (write-fields ws w whole, words-records ws words whole)

@@ -2,7 +2,6 @@
 -- a file whose values fit their fields, written and read again, is the same file (`read-write`);
 -- bytes that have the layout's kind, no header zero bit set and the length that their header says, read and written
 -- again, are the same bytes (`write-read`).
--- Then: the bytes of every list, slip and pairing that is not refused are such, and what holds of an accepted list.
 use Prim.Native.Nat.{ℕ, _*_, _<_}
 use mathlib.Core.Path.{_≡_, refl, sym, _∙_}
 use mathlib.Core.List.{List, [], _∷_, _++_, append-nil}

@@ -1,4 +1,4 @@
--- What calls answer: a number and values.
+-- What calls answer, a number and values, and what an output then holds.
 use Prim.Native.Nat.{ℕ, zero, suc}
 use mathlib.Core.List.{List, []}
 use Rattle.cellfile.specs.Files.{onto}

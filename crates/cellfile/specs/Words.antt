@@ -1,5 +1,5 @@
--- What the contracts of inner functions cite. Nobody has to believe these: laws tie them to the definitions that
--- promises cite.
+-- Records as words, and the first records of the bytes. Inner contracts cite these; laws tie them to the definitions
+-- that promises cite.
 use Prim.Native.Nat.{ℕ, _<_, _≤_}
 use mathlib.Core.List.{List, [], _∷_, _++_, map}
 use lib.ListN.{length}
@@ -18,7 +18,7 @@ entries m s = map asEntry (readRecords (storeList .entry) m s)
 abbrev pub pairs : ℕ → List ℕ → List Pair
 pairs m s = map asPair (readRecords (pairing .entry) m s)
 
--- The last k bytes of each word. Law: proofs/Write, `words-records`.
+-- The last k bytes of each word. Law: proofs/Outputs, `words-records`.
 unfoldable pub wordBytes : ℕ → List ℕ → List ℕ
 wordBytes k [] = []
 wordBytes k (w ∷ ws) = bytes k w ++ wordBytes k ws

@@ -1,4 +1,4 @@
-// Inner functions that read the fields of a record at the start of a part of a file. Missing bytes read as 0.
+// Inner: reads the fields of a record at the start of a part of a file. Missing bytes read as 0.
 ghost use mathlib.Core.Path.{_≡_};
 ghost use Prim.Native.Nat.{_<_, _≤_};
 ghost use lib.ListN.{getD};

@@ -1,3 +1,3 @@
-// The files: reading the fields of a record (`decode`), writing a file (`write`). These are inner functions of the calls.
+// Inner, for the calls: the files. `decode` reads the fields of a record, `write` writes a file.
 pub mod decode;
 pub mod write;

@@ -1,5 +1,5 @@
-// Inner functions that write a file into an output: its first bytes are the file, the others are unchanged. The caller
-// has found that the output has room. Entries come as words, each the number of a record, of which the low bits count.
+// Inner: writes a file into an output. Its first bytes are the file, the others are unchanged. The caller has found
+// that the output has room. Entries come as words, each the number of a record, of which the low bits count.
 ghost use mathlib.Core.Path.{_≡_};
 ghost use mathlib.Core.List.{_∷_, []};
 ghost use Prim.Native.Nat.{_+_, _*_, _≤_, _<_};

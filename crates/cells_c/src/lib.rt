@@ -153,7 +153,8 @@ pub extern "C" fn cells_lift(
     ensures values { λ _. ⌜ now («lifted_len» .exit) ≡ valueOr 0 (now («lifted_len» .entry))
         (lifting (now (list .entry)) (now (slip .entry)) (now (pairing .entry))
         (lent (now («work_a» .entry)) (now («work_b» .entry))) (length (now (lifted .entry)))) ⌝ }
-    ensures output { λ _. ⌜ now (lifted .exit) ≡ written (lifting (now (list .entry)) (now (slip .entry)) (now (pairing .entry))
+    ensures output { λ _. ⌜ now (lifted .exit)
+        ≡ written (lifting (now (list .entry)) (now (slip .entry)) (now (pairing .entry))
         (lent (now («work_a» .entry)) (now («work_b» .entry))) (length (now (lifted .entry))) .0)
         (liftFile (now (list .entry)) (now (slip .entry)) (now (pairing .entry))) (now (lifted .entry)) ⌝ }
     ensures cleared { λ _. ⌜ Cleared (now («work_a» .entry)) (now («work_a» .exit))

@@ -1,4 +1,6 @@
--- Entries and pairs in file order, by their keys. Assumes nothing.
+-- Entries and pairs in file order, by their keys. The cells of an entry and of a pair are in their order and below
+-- 1,024, so the two are the same where their keys are equal (`keyT`). In order: keys; what ascends (`entries-above`,
+-- `pairs-above`); what an entry says of a pair, by their keys (`not-joined`). Assumes nothing.
 use mathlib.Core.Path.{_≡_, refl, _∙_}
 use mathlib.Core.Logic.{_⊎_, inl, inr, _≢_}
 use mathlib.Core.Bool.{true}
@@ -49,8 +51,8 @@ ascending-all f P low (x ∷ xs) g s =
     let t = ascending-cons low (f x) (map f xs) s in
     (g x (t .0), ascending-all f P (suc (f x)) xs (λ y h. g y (omega arith)) (t .1))
 
--- After an entry whose key is not below the pair's all entries are above the pair; after a pair whose key is not below the
--- entry's all pairs are above the entry.
+-- After an entry whose key is not below the pair's all entries are above the pair; after a pair whose key is not below
+-- the entry's all pairs are above the entry.
 pub entries-above : (e : Entry) (es : List Entry) (p : Pair) → ascendingFrom (suc (entryKey e)) (map entryKey es) ≡ true
     → pairKey p ≤ entryKey e → All (λ (x : Entry). pairKey p < entryKey x) es
 entries-above e es p s h =

@@ -45,6 +45,7 @@ strayPair n a b = leb n a || (leb n b || leb b a)
 unfoldable pub strayEntry : Layout → List ℕ → Bool
 strayEntry l s = any (λ (e : Entry). strayPair (cellsOf s) (e .0) (e .1)) (entriesOf l s)
 
+-- 6. 'The entries are not strictly ascending', by (a, b).
 abbrev pub ascendingFrom : ℕ → List ℕ → Bool
 ascendingFrom low [] = true
 ascendingFrom low (k ∷ ks) = leb low k && ascendingFrom (suc k) ks

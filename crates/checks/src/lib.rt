@@ -1,4 +1,4 @@
-// Inner functions of the calls: they check the form of a store list (refusals 2 to 6), a slip (7) and a pairing (9).
+// Inner, for the calls: checks the form of a store list (refusals 2 to 6), a slip (7) and a pairing (9).
 use cellfile::decode;
 ghost use mathlib.Core.Path.{_≡_};
 ghost use mathlib.Core.Bool.{not};

@@ -127,8 +127,19 @@ module _ (list slip : List ℕ) (h : Allowed list slip) where
     lift-writes : Writes (lifting list slip pairing) (liftFile list slip pairing)
     lift-writes lent room enough l =
         call-passes list lent (liftRows list slip pairing room) (length (liftFile list slip pairing) ∷ []) enough
-        (h .accepted)
-        (h .formed, (ap not stands, (p .formed, (ten-just m .1 (p .pairs), (room-enough room (liftFile list slip pairing) l, tt)))))
+        (h .accepted) (
+          h .formed,
+          (
+            ap not stands,
+            (
+              p .formed,
+              (
+                ten-just m .1 (p .pairs),
+                (room-enough room (liftFile list slip pairing) l, tt),
+              ),
+            ),
+          ),
+        )
 
     pub same-lifted : liftFile list slip pairing ≡ liftedFile list (h .steps) (pairsOf pairing)
     same-lifted = by-steps list slip h [] (λ ts. liftedFile list ts m)

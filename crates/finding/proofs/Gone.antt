@@ -1,5 +1,5 @@
--- Pairs that go from a graph. In order: a pair that goes changes nothing at other cells; a run stays one, with the same
--- words, in a graph that says the same of its cells (`run-same`, `words-same`); the pairs of a list gone (`gone`); the
+-- Pairs that go from a graph. In order: a pair that goes changes nothing at other cells; a run stays one in a
+-- graph that says the same of its cells (`run-same`); the pairs of a list gone (`gone`); the
 -- graph without the pairs of a run is the graph without the pairs of its cells (`gone-dropped`). Assumes nothing.
 use mathlib.Core.Path.{_≡_, refl, sym, _∙_, fun-ext}
 use mathlib.Core.Logic.{_⊎_, inl, inr, _≢_, ⊎-map}

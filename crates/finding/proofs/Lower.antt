@@ -1,8 +1,8 @@
 -- What the row of z shows where no ring and no chain is named by z. In order: the cells on the row of a step (`On`,
--- `OnAll`), which z is (`named-on`), and so is a partner of a cell on it that has degree two (`partner-on`); a lower cell
--- of degree two on it (`Lower`) and what it rules out (`lower-chain`, `lower-two`, `lower-other`); a row whose two ways
--- meet (`Passed`) and what that rules out (`met-chain`, `met-lowest`); the loop that walks both ways in turns (`WayAt`,
--- `Turns`). Assumes nothing.
+-- `OnAll`), which z is (`named-on`), and so is a partner of a cell on it that has degree two (`partner-on`); a lower
+-- cell of degree two on it (`Lower`) and what it rules out (`lower-chain`, `lower-two`, `lower-other`); a row whose two
+-- ways meet (`Passed`) and what that rules out (`met-chain`, `met-lowest`); the loop that walks both ways in turns
+-- (`WayAt`, `Turns`). Assumes nothing.
 use mathlib.Core.Path.{_≡_, refl, sym, ap, _∙_}
 use mathlib.Core.Logic.{_⊎_, inl, inr, _≢_, ⊎-map}
 use mathlib.Core.Bool.{Bool, true, false}
@@ -170,8 +170,8 @@ row-spread P {w} g on {u} {v} {z} {inner} r m p = go z (b .passed) (b .run) (b .
     go x [] t h q = on x u q h
     go x (c ∷ cs) t h q = go c cs (t .1) (t .0 .on) (on x c q h)
 
--- The cells of degree two that both ways have passed, z among them; z is the lowest of them where no lower one was seen.
--- A partner of theirs was passed too, or a way stands at it.
+-- The cells of degree two that both ways have passed, z among them; z is the lowest of them where no lower one was
+-- seen. A partner of theirs was passed too, or a way stands at it.
 pub record Passed (w : Points) (z last at next-last next-at seen : ℕ) (past : List ℕ) : Type 0 where
   pub named : mem z past ≡ true
   pub here : mem last past ≡ true

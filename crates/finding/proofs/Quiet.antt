@@ -38,7 +38,8 @@ use Rattle.finding.proofs.Gone.{put-away}
 -- ---- the points of a cell that is not in the step
 
 module _ {w : Points} (g : Graph 1024 w) where
-  pub leaf-else : {u v : ℕ} → IsLeaf 1024 w u v → (c : ℕ) → c ≢ u → c ≢ v → w c u ≡ 0 → (x : ℕ) → leafed w u v c x ≡ w c x
+  pub leaf-else : {u v : ℕ} → IsLeaf 1024 w u v → (c : ℕ) → c ≢ u → c ≢ v → w c u ≡ 0 → (x : ℕ)
+      → leafed w u v c x ≡ w c x
   unfolding leafed
   leaf-else {u} {v} l c nu nv z x = go (touchesT v c x) (touchesT u c x)
     where

@@ -1,7 +1,7 @@
--- Where no ring is named after a step. In order: where each cell that a step changes has at most one pair after it, a ring
--- after the step was one before it (`Stays`, `keep-ring`); so it is of the leaf step at a cell whose partner is a leaf too
--- (`leaf-kept`), and of the ring step of a ring of cells of degree two (`ring-kept`); by what is told of a step
--- (`rings-leaf`, `rings-ring`). Assumes nothing.
+-- Where no ring is named after a step. In order: where each cell that a step changes has at most one pair after it, a
+-- ring after the step was one before it (`Stays`, `keep-ring`); so it is of the leaf step at a cell whose partner is a
+-- leaf too (`leaf-kept`), and of the ring step of a ring of cells of degree two (`ring-kept`); by what is told of a
+-- step (`rings-leaf`, `rings-ring`). Assumes nothing.
 use mathlib.Core.Path.{_≡_, refl, sym, ap, subst, _∙_}
 use mathlib.Core.Logic.{_⊎_, inl, inr, _≢_, ⊎-elim}
 use mathlib.Core.Bool.{Bool, true, false, cond}

@@ -1,8 +1,7 @@
 -- The scan over cells and their slots for the first step of a rule. In order: what a slot shows (`slot-gone`,
 -- `slot-leaf`, `slot-row`); the slots of a cell (`unmet-none`, `unmet-off`, `unmet-start`, `unmet-on`, `unmet-gone`,
--- `unmet-end`); the cells (`Barren`, `scan-none`, `scan-some`); a scan that leaves out cells below a bound (`from-bound`,
--- `from-low`);
--- the first step of all rules (`first-leaf`, `first-ring`, `first-chain`).
+-- `unmet-end`); the cells (`Barren`, `scan-none`, `scan-some`); a scan that leaves out cells below a bound
+-- (`from-bound`, `from-low`); the first step of all rules (`first-leaf`, `first-ring`, `first-chain`).
 use mathlib.Core.Path.{_≡_, refl, sym, ap, ap₂, subst, _∙_, fun-ext}
 use mathlib.Core.Logic.{inl, inr, _≢_, ⊎-elim}
 use mathlib.Core.Bool.{Bool}

@@ -1,5 +1,6 @@
--- Walks over cells of degree two. In order: what a walk meets (`stretch-read`); a run is what is walked (`run-stretch`),
--- and a walk does not stop before its end where it may go on (`stretch-through`); the loop of a walk (`Walking`).
+-- Walks over cells of degree two. In order: what a walk meets (`stretch-read`); a run is what is walked
+-- (`run-stretch`), and a walk does not stop before its end where it may go on (`stretch-through`); the loop of a walk
+-- (`Walking`).
 use mathlib.Core.Path.{_≡_, refl, sym, ap, _∙_}
 use mathlib.Core.Logic.{_⊎_, inl, inr, _≢_}
 use mathlib.Core.Bool.{Bool, true, cond}

@@ -107,7 +107,8 @@ module _ {w : Points} (g : Graph 1024 w) where
     shown-here =
         rw (turn-first (a .0) [] z) at
         (stretch-through g z 1024 u (turn (a .0) []) z (turn-run 1024 w z u (a .0) [] tt (out .run))
-        (turn-mem (λ c. z ≤ c) (a .0) [] (λ c m. omega (arith, out .high c m)) (λ c m. no-mem c m)) (omega arith) two few)
+        (turn-mem (λ c. z ≤ c) (a .0) [] (λ c m. omega (arith, out .high c m)) (λ c m. no-mem c m)) (omega arith) two
+        few)
       where
         below : (c : ℕ) → mem c (z ∷ a .0) ≡ true → c < 1024
         below =
@@ -230,7 +231,8 @@ chain-none w z f miss (chain u v z′ inner) p m = go u v inner (rw (p .0) at (p
         ends-apart : (cs : List ℕ) → distinct cs ≡ true → 1 < length cs → first v cs ≡ last u cs → ⊥
         ends-apart [] d l q = absurd (omega arith)
         ends-apart (c ∷ []) d l q = absurd (omega arith)
-        ends-apart (c ∷ b ∷ cs) d l q = mem-apart c c (b ∷ cs) (rw q (last-in b cs)) (distinct-cons c (b ∷ cs) d .0) refl
+        ends-apart (c ∷ b ∷ cs) d l q =
+            mem-apart c c (b ∷ cs) (rw q (last-in b cs)) (distinct-cons c (b ∷ cs) d .0) refl
 
 -- ---- the tests in the code
 

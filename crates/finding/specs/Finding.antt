@@ -55,6 +55,7 @@ asStep found.None inner = none
 abbrev pub stepOf : Points → Found → Option Step
 stepOf w x = asStep (x .step) (λ u. rowAt w u (x .first) .0)
 
+-- The degree of the cell that a rule's step names.
 abbrev pub degreeOf : Rule → ℕ
 degreeOf by-leaf = 1
 degreeOf by-ring = 2
@@ -120,7 +121,3 @@ pub record Unmet (e : ℕ) (w1 : List ℕ) (r : Rule) (c i : ℕ) : Type 0 where
   pub has : (k : ℕ) → i ≡ suc k → touches c (lowOf w1 k) (highOf w1 k) ≡ true
   pub fits : (k : ℕ) → i ≡ suc k → degree 1024 (graphOf e w1) c ≡ degreeOf r
   pub past : (j : ℕ) → i ≤ j → StepAtSlot e w1 r c j none
-
--- ---- where no leaf is
-
--- ---- where no ring is

@@ -1,4 +1,4 @@
--- The row of a ring or a chain in the buffers, and what taking it leaves. Inner contracts cite this.
+-- The row of a ring or a chain in the buffers, read by walking. Inner contracts cite this.
 use mathlib.Core.List.{List}
 use Prim.Native.Nat.{ℕ}
 use Rattle.matching.specs.Pairs.{Points}

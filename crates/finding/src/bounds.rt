@@ -1,4 +1,4 @@
-// The bounds of the search, kept from step to step: see specs/Bounds.
+// Inner: the bounds of the search, kept from step to step. See specs/Bounds.
 use crate::Step;
 use slots::read;
 ghost use mathlib.Core.Path.{_≡_};
@@ -88,8 +88,8 @@ pub fn rings_after(w1: &[u64], w2: &[u64], e: usize, step: Step, rings: usize) -
     }
 }
 
-// The bound for rings after k steps, of which the last before a run of `steps` leaf steps left the bound `rings`: it stays
-// where reduce took that step and there was no run.
+// The bound for rings after k steps, of which the last before a run of `steps` leaf steps left the bound `rings`: it
+// stays where reduce took that step and there was no run.
 pub fn rings_left(m: usize, k: usize, steps: usize, rings: usize) -> usize
     ensures { λ r. ⌜ RingsLeft m k steps rings r ⌝ }
 {

@@ -1,4 +1,4 @@
-// Finding a step on the working graph: see specs/Walks and specs/Finding. These are inner functions of the reduction.
+// Inner, for the reduction: finds a step on the working graph. See specs/Walks and specs/Finding.
 pub mod bounds;
 
 use slots::read;
@@ -191,8 +191,9 @@ fn degree_of(rule: u64) -> u64
     2
 }
 
-// Whether z is ruled out where the two ways out of it have met, so that its row is a ring of cells of degree two: there is
-// no chain then, and a ring is not named by its lowest cell. One way came from `last`, where the other goes on: `next`.
+// Whether z is ruled out where the two ways out of it have met, so that its row is a ring of cells of degree two: there
+// is no chain then, and a ring is not named by its lowest cell. One way came from `last`, where the other goes on:
+// `next`.
 fn ring_rules_out(rule: u64, z: usize, seen: usize, last: usize, next: usize) -> bool
     ensures { λ r. ⌜ (r ≡ true → (next ≡ last) × ((rule ≢ 2) ⊎ (seen ≡ z))) ⌝ }
 {
@@ -205,9 +206,9 @@ fn ring_rules_out(rule: u64, z: usize, seen: usize, last: usize, next: usize) ->
     seen == z
 }
 
-// Whether the row of z, which slot i leaves at f, shows that no ring and no chain is named by z. Both ways are walked in
-// turns until lower cells of degree two are seen, one for a chain, for a ring two, or one and a cell of another degree; or
-// until the ways meet.
+// Whether the row of z, which slot i leaves at f, shows that no ring and no chain is named by z. Both ways are walked
+// in turns until lower cells of degree two are seen, one for a chain, for a ring two, or one and a cell of another
+// degree; or until the ways meet.
 fn ruled_out(w1: &[u64], w2: &[u64], e: usize, rule: u64, z: usize, f: usize, i: usize) -> bool
     requires { ⌜ (Holds e (now w1) (now w2)) × Joins e (now w1) i z f × (f < 1024) × (z < 1024) × (rule ≢ 1)
         × (degree 1024 (graphOf e (now w1)) z ≡ 2) ⌝ }
@@ -305,8 +306,8 @@ pub fn scan(w1: &[u64], w2: &[u64], e: usize, rule: u64, from: usize, to: usize)
     found
 }
 
-// The step that reduce takes: a leaf at the lowest cell; without one a ring; without one a chain. No cell below `low` is a
-// leaf, none below `rings` is named by a ring step.
+// The step that reduce takes: a leaf at the lowest cell; without one a ring; without one a chain. No cell below `low`
+// is a leaf, none below `rings` is named by a ring step.
 pub fn first_step(w1: &[u64], w2: &[u64], e: usize, n: usize, low: usize, rings: usize) -> Found
     requires { ⌜ (Holds e (now w1) (now w2)) × (n ≤ 1024) × Graph n (graphOf e (now w1))
         × Quiet low (graphOf e (now w1)) × RingQuiet rings (graphOf e (now w1)) ⌝ }

@@ -1,7 +1,8 @@
--- A run of leaf steps at u while the graph stays as it is. In order: a cell more without a leaf (`quiet-on`); a graph whose pairs at u have lost p (`less-zero`,
--- `less-with`, `less-else`, `less-graph`), its degrees (`degree-kept`, `degree-gone`, `hub-two`), and the leaf step on it
--- (`less-leaf`); a run so far (`Owing`): how it starts (`owing-start`), passes a cell (`owing-pass`) and takes a step
--- (`owing-take`); where no leaf is (`owing-quiet`). Assumes nothing.
+-- A run of leaf steps at u while the graph stays as it is. In order: a cell more without a leaf (`quiet-on`); a graph
+-- whose pairs at u have lost p (`less-zero`, `less-with`, `less-else`, `less-graph`), its degrees (`degree-kept`,
+-- `degree-gone`, `hub-two`), and the leaf step on it (`less-leaf`); a run so far (`Owing`): how it starts
+-- (`owing-start`), passes a cell (`owing-pass`) and takes a step (`owing-take`); where no leaf is (`owing-quiet`).
+-- Assumes nothing.
 use mathlib.Core.Path.{_≡_, refl, sym, ap, ap₂, subst, _∙_, fun-ext}
 use mathlib.Core.Logic.{_⊎_, inl, inr, _≢_}
 use mathlib.Core.Bool.{Bool, true, false, cond}

@@ -1,6 +1,6 @@
--- A run in the buffers. In order: what holds of it at a cell (`Running`); how it starts (`running-start`), passes a cell
--- (`running-pass`), takes a step (`running-take`), and what it leaves (`running-end`); after the pairs at u have lost
--- what is owed (`run-taken`); no run (`run-none`). Assumes nothing.
+-- A run in the buffers. In order: what holds of it at a cell (`Running`); how it starts (`running-start`), passes a
+-- cell (`running-pass`), takes a step (`running-take`), and what it leaves (`running-end`); after the pairs at u have
+-- lost what is owed (`run-taken`); no run (`run-none`). Assumes nothing.
 use mathlib.Core.Path.{_≡_, refl, sym, ap, subst, _∙_}
 use mathlib.Core.Logic.{inl, inr, _≢_}
 use mathlib.Core.Bool.{Bool}

@@ -1,8 +1,8 @@
-// A run of leaf steps at one cell, taken together: see specs/Runs. Inner functions of the reduction.
+// Inner, for the reduction: a run of leaf steps at one cell, taken together. See specs/Runs.
 //
 // While leaves of u go one after the other, in the order in which reduce takes them, the pairs at u have lost together
-// the points of the last leaf's pair as it was at the start. So the graph stays as it is during a run, and every pair at
-// u loses that much once, at its end.
+// the points of the last leaf's pair as it was at the start. So the graph stays as it is during a run, and every pair
+// at u loses that much once, at its end.
 use finding::bounds;
 use slots::change;
 use slots::read;
@@ -73,7 +73,8 @@ fn slack(w1: &[u64], w2: &[u64], e: usize, u: usize) -> u64
     bounds::lower(least as usize, most as usize) as u64
 }
 
-// The points of c's only pair where it is with u; 0 where c is no leaf; more than any points where it is another cell's.
+// The points of c's only pair where it is with u; 0 where c is no leaf; more than any points where it is another
+// cell's.
 fn due(w1: &[u64], w2: &[u64], e: usize, u: usize, c: usize) -> u64
     requires { ⌜ (Holds e (now w1) (now w2)) × (c < 1024) ⌝ }
     ensures { λ r. ⌜ Due (graphOf e (now (w1 .entry))) u c r ⌝ }
@@ -199,8 +200,8 @@ fn run_at(
     }
 }
 
-// At most `most` leaf steps at one cell, as reduce takes them, where the first leaf's partner has many pairs. No cell below
-// `low` is a leaf.
+// At most `most` leaf steps at one cell, as reduce takes them, where the first leaf's partner has many pairs. No cell
+// below `low` is a leaf.
 pub fn leaf_run(
     w1: &mut [u64],
     w2: &mut [u64],

@@ -86,7 +86,8 @@ module _ {n e t : ℕ} {w1 w2 : List ℕ} (h : TailThere n e t w1 w2) where
   module _ (pairing : List ℕ) where
     pub nine-refused : {k : ℕ} → (k, []) ≡ answer (first (formRow n pairing ∷ [])) (n ∷ countOf pairing ∷ [])
         → (out : List ℕ)
-        → Does (formRow n pairing ∷ holdRow (after (h .on)) pairing ∷ []) ((backFile (h .on) pairing, out, out) ∷ []) (k, [])
+        → Does (formRow n pairing ∷ holdRow (after (h .on)) pairing ∷ []) ((backFile (h .on) pairing, out, out) ∷ [])
+        (k, [])
     nine-refused q out =
         refused (formRow n pairing ∷ []) (holdRow (after (h .on)) pairing ∷ []) n (countOf pairing ∷ []) q (refl, tt)
 
@@ -118,9 +119,11 @@ module _ {n e t : ℕ} {w1 w2 : List ℕ} (h : TailThere n e t w1 w2) where
         nine-there = formed
 
         pub nine-passed : {out out′ : List ℕ} {a : Answer} → LiftsPairing n t pairing k r v1 w2 out out′ a
-            → Does (formRow n pairing ∷ holdRow (after (h .on)) pairing ∷ []) ((backFile (h .on) pairing, out, out′) ∷ []) a
+            → Does (formRow n pairing ∷ holdRow (after (h .on)) pairing ∷ [])
+            ((backFile (h .on) pairing, out, out′) ∷ []) a
         nine-passed d =
-            passed (formRow n pairing ∷ []) (holdRow (after (h .on)) pairing ∷ []) (omega arith, tt) (accepted .0) (d formed)
+            passed (formRow n pairing ∷ []) (holdRow (after (h .on)) pairing ∷ []) (omega arith, tt) (accepted .0)
+            (d formed)
 
 -- ---- the call
 

@@ -56,7 +56,8 @@ module _ {n e t : ℕ} {w1 w2 : List ℕ} (p : TailThere n e t w1 w2) where
 
   -- more than 12 cells
   pub tail-crowded : (out : List ℕ) → 12 < cellsLeft n (graphOf e w1)
-      → Does (crowdedRow (cellsLeft n g) ∷ []) ((pairFile n (lift (p .on .w) (p .on .steps) best), out, out) ∷ []) (11, [])
+      → Does (crowdedRow (cellsLeft n g) ∷ []) ((pairFile n (lift (p .on .w) (p .on .steps) best), out, out) ∷ [])
+      (11, [])
   tail-crowded out l =
       let k : 12 < cellsLeft n g = subst (λ (v : Points). 12 < cellsLeft n v) (p .left-is) l in
       refused (crowdedRow (cellsLeft n g) ∷ []) [] 0 [] (rw (lt-ltb 12 (cellsLeft n g) k)) (refl, tt)
@@ -90,7 +91,8 @@ module _ {n e t : ℕ} {w1 w2 : List ℕ} (p : TailThere n e t w1 w2) where
       tail-returns = back
 
       pub tail-passed : (out : List ℕ) {out′ : List ℕ} {a : Answer} → Returns n t w1a w2b out out′ a
-          → Does (crowdedRow (cellsLeft n g) ∷ []) ((pairFile n (lift (p .on .w) (p .on .steps) best), out, out′) ∷ []) a
+          → Does (crowdedRow (cellsLeft n g) ∷ []) ((pairFile n (lift (p .on .w) (p .on .steps) best), out, out′) ∷ [])
+          a
       tail-passed out d =
           passed (crowdedRow (cellsLeft n g) ∷ []) [] (omega arith, tt)
           (rw (le-ltb 12 (cellsLeft n g) (solved .few))) (d back)

@@ -1,5 +1,5 @@
--- The worked list that concerns lifting: a pair of no points is not in the graph, so with the empty slip lift refuses it
--- by 10; the list and the pairing are those of which weighing answers 0.
+-- The worked list that concerns lifting: a pair of no points is not in the graph, so with the empty slip lift refuses
+-- it by 10; the list and the pairing are those of which weighing answers 0.
 use Prim.Native.Nat.{ℕ}
 use mathlib.Core.Path.{_≡_, refl}
 use mathlib.Core.List.{List, [], _∷_}

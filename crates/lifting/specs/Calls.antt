@@ -51,8 +51,9 @@ module _ (list : List ℕ) where
   -- The rows of a call between 1 and 12, and its answer.
   abbrev pub answering : List Row → List ℕ → ℕ → List ℕ → Answer
   answering rows lent room file =
-      answer (first ((1, fewWords lent) ∷ (listRows storeList list ++ (rows ++ (12, shortOutput ((room, length file) ∷ []))
-      ∷ [])))) (length file ∷ [])
+      answer (first ((1, fewWords lent)
+      ∷ (listRows storeList list ++ (rows ++ (12, shortOutput ((room, length file) ∷ [])) ∷ []))))
+      (length file ∷ [])
 
   -- Solve.
   abbrev pub solveFile : List ℕ → List ℕ
@@ -70,8 +71,8 @@ module _ (list : List ℕ) where
 
   abbrev pub lifting : List ℕ → List ℕ → List ℕ → ℕ → Answer
   lifting slip pairing lent room =
-      answering (slipRows slip ++ (9, badPairing cells pairing) ∷ (10, noPairing there (pairsOf pairing)) ∷ []) lent room
-      (liftFile slip pairing)
+      answering (slipRows slip ++ (9, badPairing cells pairing) ∷ (10, noPairing there (pairsOf pairing)) ∷ [])
+      lent room (liftFile slip pairing)
     where
       there : Points
       there = bySteps slip (graphIn list) graphAfter

@@ -1,4 +1,4 @@
-// The end of a call: its pairing is written. See specs/Ending.
+// Inner: the end of a call, which writes its pairing. See specs/Ending.
 use crate::Paired;
 use cellfile::write;
 use partners::back;

@@ -44,7 +44,8 @@ replay-append n w (r ∷ rs) ys = go (stepAt n w (r .0) (r .1)) (λ s. replay-ap
     go none i = refl
     go (some s) i = ap (behind (s ∷ [])) (i s) ∙ on (replay n (apply w s) rs)
       where
-        on : (o : Option (List Step)) → behind (s ∷ []) (thenReplay n (apply w s) ys o) ≡ thenReplay n w ys (behind (s ∷ []) o)
+        on : (o : Option (List Step)) → behind (s ∷ []) (thenReplay n (apply w s) ys o) ≡ thenReplay n w ys
+            (behind (s ∷ []) o)
         on none = refl
         on (some ss) = at (replay n (left (apply w s) ss) ys)
           where

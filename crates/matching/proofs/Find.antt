@@ -102,7 +102,8 @@ module _ (n : ℕ) (w : Points) (z u f : ℕ) (r : ReadRow) where
 
   chain-where : Where ChainAt (chain u (r .1) z (r .0)) (chainOf n w z u f r)
   chain-where =
-      provided-where (both (decides-below 0 (w u f)) (both (decides-below u (r .1)) (both (decides-below 1 (length (r .0)))
+      provided-where (both (decides-below 0 (w u f)) (both (decides-below u (r .1))
+      (both (decides-below 1 (length (r .0)))
       (both (lowestT z (r .0)) (both (not-two n w u) (not-two n w (r .1)))))))
 
 -- The ring and the chain at z that leave u at f.

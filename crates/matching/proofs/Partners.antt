@@ -1,6 +1,6 @@
 -- The partners of a cell. In order: x is a partner of c just where 0 < w c x (`partnerT`), and on a graph of n cells
--- n is enough (`partners-more`), and only which pairs have points counts (`partners-like`); the partners ascend, so that none stands twice; a cell with one partner, a cell with
--- two (`Between`).
+-- n is enough (`partners-more`), and only which pairs have points counts (`partners-like`); the partners ascend, so
+-- that none stands twice; a cell with one partner, a cell with two (`Between`).
 use mathlib.Core.Path.{_≡_, refl, sym, ap, ap₂, _∙_}
 use mathlib.Core.Logic.{_⊎_, inl, inr, _≢_, ⊎-map, ⊎-swap}
 use mathlib.Core.Bool.{Bool, true, false, cond, _||_}

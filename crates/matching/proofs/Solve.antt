@@ -1,6 +1,6 @@
 -- Solving: the recursion over sets of cells gives the best of the set's pairs (`solve-best`). In order: a set
--- less one cell; pairs of a cell that must stay free may be left out (`best-without`); the pairs of a set less one cell;
--- the law. Assumes nothing.
+-- less one cell; pairs of a cell that must stay free may be left out (`best-without`); the pairs of a set less one
+-- cell; the law. Assumes nothing.
 use mathlib.Core.Path.{_≡_, refl, sym, ap, ap₂, _∙_}
 use mathlib.Core.Logic.{_⊎_, inl, inr, _≢_}
 use mathlib.Core.Bool.{Bool, true, false, not, cond, _&&_, _||_}

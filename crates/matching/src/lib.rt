@@ -1,17 +1,17 @@
-// Pairings (matchings) of weighted pairs and the reduction steps: definitions in specs/, laws in proofs/. This crate has no
-// function.
+// Pairings (matchings) of weighted pairs and the reduction steps: definitions in specs/, laws in proofs/. This crate
+// has no function.
 //
 // The laws, by name and file of proofs/:
 //   best      is a pairing of its pairs (best-each, best-once, best-off), has the points H (best-H), no pairing of them
 //             has more (best-most): Best. Of equals it is the one that the tie names: best-first, Ties. The recurrence
 //             of a path and of a ring: path-step, ring-step, Path.
-//   stepAt    what is found is a leaf, ring or chain, and what is one is found: step-is, step-found; it is determined by
-//             rule and cell: step-one; none is found just where none is there: step-none, first-step-none; the first
+//   stepAt    what is found is a leaf, ring or chain, and what is one is found: step-is, step-found; it is determined
+//             by rule and cell: step-one; none is found just where none is there: step-none, first-step-none; the first
 //             step is by the first rule, at the lowest cell: first-step-first. Find.
 //   steps     each step found fits (is-fits, Find), and one that fits is exact: step-exact, Exact (Leaf, Ring, Chain;
 //             fewer cells with pairs, no more pairs: Count).
-//   slips     demand 3, one theorem on the whole slip: no-gain-no-loss, Demand. The bounds of points and carried points:
-//             left-bound, total-fits; no more entries than the store: short-fewer. Demand.
+//   slips     demand 3, one theorem on the whole slip: no-gain-no-loss, Demand. The bounds of points and carried
+//             points: left-bound, total-fits; no more entries than the store: short-fewer. Demand.
 //             Replaying finds just the steps that are allowed, each where it stands: replay-is, replay-not. Reduce.
 //   reduce    its steps are allowed: reduce-replay; they come in parts: reduce-append; each is the first that is
 //             allowed, and none is after them: reduce-in-turn. Reduce. A leaf where no lower cell is one comes first:

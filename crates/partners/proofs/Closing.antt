@@ -28,7 +28,7 @@ use Rattle.finding.specs.Finding.{told, toTell}
 use Rattle.finding.specs.declared.Step as declared
 use Rattle.finding.specs.declared.Step.the-variants as found
 use Rattle.partners.specs.Back.{Mates, UndoThere, Undone}
-use Rattle.partners.specs.Unwinding.{TableOf, wordsAt, closingOf, Writable, pairsIn, moreIn, StepBack, LeafBack}
+use Rattle.partners.specs.Unwinding.{TableOf, wordsAt, closingOf, Closable, pairsIn, moreIn, StepBack, LeafBack}
 use Rattle.partners.specs.Unwinding.{RingBack, ChainBack}
 use Rattle.partners.proofs.Marking.{words-same}
 
@@ -39,7 +39,7 @@ cell-field : (x c k : ℕ) → c < 1024 → x ≡ c + 1024 * k → x % 1024 ≡ 
 cell-field x c k l e = omega arith
 
 module _ (word : ℕ) (w : Points) where
-  pub leaf-read : word % 4 ≡ 1 → (s : Step) → Writable s → word ≡ closingOf w s
+  pub leaf-read : word % 4 ≡ 1 → (s : Step) → Closable s → word ≡ closingOf w s
       → _≡_ {A = Answer} (1, word / 4096 % 1024 ∷ word / 4 % 1024 ∷ []) (toTell (some s))
   leaf-read r (leaf u v) l e =
       let p = cell-field (word / 4096) v 0 (l .1) (omega (arith, e, l .0)) in
@@ -48,7 +48,7 @@ module _ (word : ℕ) (w : Points) where
   leaf-read r (ring u z inner) l e = (let x : ⊥ = omega arith in absurd x)
   leaf-read r (chain u v z inner) l e = (let x : ⊥ = omega arith in absurd x)
 
-  pub ring-read : word % 4 ≡ 2 → (s : Step) → Writable s → word ≡ closingOf w s
+  pub ring-read : word % 4 ≡ 2 → (s : Step) → Closable s → word ≡ closingOf w s
       → _≡_ {A = Answer} (2, word / 4 % 1024 ∷ word / 4194304 % 1024 ∷ []) (toTell (some s))
   ring-read r (leaf u v) l e = (let x : ⊥ = omega arith in absurd x)
   ring-read r (ring u z inner) l e =
@@ -58,7 +58,7 @@ module _ (word : ℕ) (w : Points) where
       rw (p, q)
   ring-read r (chain u v z inner) l e = (let x : ⊥ = omega arith in absurd x)
 
-  pub chain-read : word % 4 ≡ 3 → (s : Step) → Writable s → word ≡ closingOf w s
+  pub chain-read : word % 4 ≡ 3 → (s : Step) → Closable s → word ≡ closingOf w s
       → _≡_ {A = Answer} (3, word / 4 % 1024 ∷ word / 4096 % 1024 ∷ word / 4194304 % 1024 ∷ []) (toTell (some s))
   chain-read r (leaf u v) l e = (let x : ⊥ = omega arith in absurd x)
   chain-read r (ring u z inner) l e = (let x : ⊥ = omega arith in absurd x)
@@ -69,7 +69,7 @@ module _ (word : ℕ) (w : Points) where
       let o = cell-field (word / 4194304) z k (l .2) (omega (arith, e, l .0, l .1)) in
       rw (p, q, o)
 
-  pub none-read : (word % 4 ≡ 1 → ⊥) → (word % 4 ≡ 2 → ⊥) → (word % 4 ≡ 3 → ⊥) → (s : Step) → Writable s
+  pub none-read : (word % 4 ≡ 1 → ⊥) → (word % 4 ≡ 2 → ⊥) → (word % 4 ≡ 3 → ⊥) → (s : Step) → Closable s
       → word ≡ closingOf w s → _≡_ {A = Answer} (0, []) (toTell (some s))
   none-read p q r (leaf u v) l e = absurd (p (omega arith))
   none-read p q r (ring u z inner) l e = absurd (q (omega arith))
@@ -91,7 +91,7 @@ pub step-some : (w : Points) (s : Step) → 1 ≤ length (stepWords w s)
 step-some w s =
     omega (arith, ap length (words-are w s), length-append (rowOf w s) (closingOf w s ∷ []))
 
-pairs-read : (w : Points) (s : Step) → Writable s → length (rowOf w s) ≡ pairsIn (closingOf w s)
+pairs-read : (w : Points) (s : Step) → Closable s → length (rowOf w s) ≡ pairsIn (closingOf w s)
 pairs-read w (leaf u v) l = omega (arith, l .0, l .1)
 pairs-read w (ring u z inner) l = omega (arith, length-row w u inner u, l .0, l .1, l .2)
 pairs-read w (chain u v z inner) l =
@@ -101,7 +101,7 @@ pairs-read w (chain u v z inner) l =
 ι-back true = refl
 ι-back false = refl
 
-more-read : (w : Points) (u v z : ℕ) (inner : List ℕ) → Writable (chain u v z inner)
+more-read : (w : Points) (u v z : ℕ) (inner : List ℕ) → Closable (chain u v z inner)
     → moreIn (closingOf w (chain u v z inner)) ≡ outweighs w u v inner
 more-read w u v z inner l =
     let d = outweighs w u v inner in
@@ -147,7 +147,7 @@ as-none (chain a b c inner) q = other 0 3 (ap (λ (t : Answer). t .0) q) (λ e. 
 -- ---- the last step on the trail
 
 fits-writable : {n : ℕ} {w : Points} → Graph n w → n ≤ 1024 → (s : Step) → Fits w s → length (rowOf w s) ≤ 4096
-    → Writable s
+    → Closable s
 fits-writable {n} {w} g l (leaf u v) f k =
     let p = pair-below g u v (f .pair) in
     (omega (arith, p .0), omega (arith, p .1))
@@ -179,7 +179,7 @@ module _ {t : ℕ} {w1 w2 : List ℕ} (h : UndoThere t w1 w2) where
       ∙ length-append (h .rest) (row ++ close ∷ [])
       ∙ ap (λ (k : ℕ). length (h .rest) + k) (length-append row (close ∷ []))
 
-  step-writable : Writable (h .step)
+  step-writable : Closable (h .step)
   step-writable =
       fits-writable (h .graph) (h .cells) (h .step)
       (is-fits (h .graph) (name (h .step) .0) (name (h .step) .1) (h .step) (h .is))
@@ -264,7 +264,7 @@ module _ {t : ℕ} {w1 w2 : List ℕ} (h : UndoThere t w1 w2) where
     words-at marks q = ap (λ (j : ℕ). take j (drop (t - 1 - k) w2)) q ∙ last-row
 
     module _ {x : declared.Step}
-        (told-is : (w : Points) (s : Step) → Writable s → getD w2 (t - 1) 0 ≡ closingOf w s
+        (told-is : (w : Points) (s : Step) → Closable s → getD w2 (t - 1) 0 ≡ closingOf w s
         → told x ≡ toTell (some s)) where
       is-told : {y : declared.Step} → x ≡ y → told y ≡ toTell (some (h .step))
       is-told q = ap told (sym q) ∙ told-is (h .w) (h .step) step-writable last-word
@@ -315,7 +315,7 @@ module _ {t : ℕ} {w1 w2 : List ℕ} (h : UndoThere t w1 w2) where
               direct =
                   m
                   ∙ ap moreIn (last-word ∙ ap (closingOf (h .w)) (r .1))
-                  ∙ more-read (h .w) u v z (r .0) (subst Writable (r .1) step-writable);
+                  ∙ more-read (h .w) u v z (r .0) (subst Closable (r .1) step-writable);
             }
 
         pub chain-undone : {u v z : ℕ} {more : Bool} (q : x ≡ found.Chain u v z) → more ≡ moreIn (getD w2 (t - 1) 0)

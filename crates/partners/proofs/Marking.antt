@@ -48,7 +48,8 @@ words-same a k w2 w2′ h l r s =
 
 -- ---- the loop
 
-each-drop : (P : ℕ → ℕ → Type 0) (i : ℕ) (ws : List ℕ) (v : ℕ) → Each P (rowPairs ws v) → Each P (rowPairs (drop i ws) v)
+each-drop : (P : ℕ → ℕ → Type 0) (i : ℕ) (ws : List ℕ) (v : ℕ) → Each P (rowPairs ws v)
+    → Each P (rowPairs (drop i ws) v)
 each-drop P zero ws v p = p
 each-drop P (suc i) [] v p = p
 each-drop P (suc i) (x ∷ ws) v p = each-drop P i ws v (p .1)

@@ -18,7 +18,7 @@ use Rattle.matching.specs.Listed.{Entry, Before, joined, shortList}
 use Rattle.matching.proofs.Alls.{Ascends, all-map}
 use Rattle.matching.proofs.Short.{short-entries, short-ascends, short-joined}
 use Rattle.cellfile.specs.Fields.{packed, readRecord}
-use Rattle.cellfile.specs.Files.{pairing, asPair, pairsOf, key, pairKey}
+use Rattle.cellfile.specs.Files.{pairing, asPair, pairsOf, key, entryKey, pairKey}
 use Rattle.checks.specs.Refusals.{ascendingFrom}
 use Rattle.cellfile.specs.Reads.{PairRead}
 use Rattle.cellfile.specs.Words.{pairs, shortWord}
@@ -27,6 +27,7 @@ use Rattle.weighing.specs.declared.Weighed.{Weighed}
 use Rattle.weighing.specs.declared.Weighed.the-variants as weighed
 use Rattle.cellfile.specs.declared.decode.PairEntry.{PairEntry}
 use Rattle.checks.proofs.Rows.{bad-pairing-none}
+use Rattle.checks.proofs.Ascending.{Ordered, OrderedEntries}
 use Rattle.weighing.proofs.Merge.{merged-is}
 use Rattle.cellfile.proofs.Walk.{from, from-start, from-end, from-next}
 use Rattle.partners.specs.Table.{FileThere}
@@ -34,18 +35,11 @@ use Rattle.partners.specs.Entering.{wordKey, absent}
 
 -- ---- the keys of a short list
 
-abbrev entryKey : Entry → ℕ
-entryKey e = key (e .0) (e .1)
-
--- Two cells in their order, of 10 bits.
-abbrev Ordered : Entry → Type 0
-Ordered e = (e .0 < e .1) × (e .1 < 1024)
-
-before-key : (e f : Entry) → Ordered e → Before e f → entryKey e < entryKey f
+before-key : (e f : Entry) → Ordered (e .0) (e .1) → Before e f → entryKey e < entryKey f
 before-key e f p (inl l) = omega arith
 before-key e f p (inr l) = omega arith
 
-keys-ascend : (low : ℕ) (es : List Entry) → All Ordered es → Ascends Before es
+keys-ascend : (low : ℕ) (es : List Entry) → OrderedEntries es → Ascends Before es
     → All (λ (e : Entry). low ≤ entryKey e) es → ascendingFrom low (map entryKey es) ≡ true
 keys-ascend low [] p a h = refl
 keys-ascend low (e ∷ es) p a h =
@@ -98,7 +92,7 @@ module _ {n : ℕ} {w : Points} {file : List ℕ} {k r : ℕ} {w1 w2 : List ℕ}
   abbrev short : List Entry
   short = shortList n w
 
-  ordered : All Ordered short
+  ordered : OrderedEntries short
   ordered = all-map (λ e p. (p .up, omega (arith, p .below, h .cells))) short (short-entries n w)
 
   short-ascending : ascendingFrom 0 (map entryKey short) ≡ true

@@ -12,7 +12,7 @@ use Rattle.matching.specs.Pairing.{cells}
 use Rattle.partners.specs.Back.{Mates}
 use Rattle.partners.specs.Table.{TrailKept}
 
--- The cells of a short list's word, and of a pair, as one number.
+-- The cells of a short list's word as one number.
 abbrev pub wordKey : ℕ → ℕ
 wordKey v = v / 17592186044416
 

@@ -83,10 +83,10 @@ closingOf w (ring u z inner) = closing 2 u 0 z (suc (length inner)) 0
 closingOf w (chain u v z inner) = closing 3 u v z (suc (length inner)) (ι (outweighs w u v inner))
 
 -- The closing word has room for the numbers of the step.
-abbrev pub Writable : Step → Type 0
-Writable (leaf u v) = (u < 1024) × (v < 1024)
-Writable (ring u z inner) = (u < 1024) × (z < 1024) × (length inner < 8191)
-Writable (chain u v z inner) = (u < 1024) × (v < 1024) × (z < 1024) × (length inner < 8191)
+abbrev pub Closable : Step → Type 0
+Closable (leaf u v) = (u < 1024) × (v < 1024)
+Closable (ring u z inner) = (u < 1024) × (z < 1024) × (length inner < 8191)
+Closable (chain u v z inner) = (u < 1024) × (v < 1024) × (z < 1024) × (length inner < 8191)
 
 -- The number of pairs in its row, and whether a direct pair of a chain outweighs its row.
 abbrev pub pairsIn : ℕ → ℕ

@@ -1,5 +1,5 @@
-// The way back through the steps on the trail, on the table of partners: see specs/Back, and specs/Unwinding for its
-// parts.
+// Inner: the way back through the steps on the trail, on the table of partners. See specs/Back, and specs/Unwinding for
+// its parts.
 use buffers::clear;
 use finding::Step;
 ghost use mathlib.Core.Path.{_≡_};
@@ -16,7 +16,7 @@ ghost use Rattle.rows.specs.Row.{marked};
 ghost use Rattle.finding.specs.Finding.{told, toTell};
 ghost use Rattle.partners.specs.Back.{Mates, UndoThere, Undone, BackThere, Lifted};
 ghost use Rattle.partners.specs.Unwinding.{joined, parted, TableOf, cellOf, rowPairs, wordsAt, PutThere};
-ghost use Rattle.partners.specs.Unwinding.{ChainFreed, RingFreed, closingOf, Writable, pairsIn, moreIn, LeafBack};
+ghost use Rattle.partners.specs.Unwinding.{ChainFreed, RingFreed, closingOf, Closable, pairsIn, moreIn, LeafBack};
 ghost use Rattle.partners.specs.Unwinding.{RingBack, ChainBack};
 
 const MATES: usize = 4096;
@@ -208,7 +208,7 @@ fn more_of(word: u64) -> bool
 
 // The step that a word closes.
 fn step_of(word: u64) -> Step
-    ensures { λ r. ⌜ ((w : Points) (s : DefinedStep) → Writable s → word ≡ closingOf w s → told r ≡ toTell (some s)) ⌝ }
+    ensures { λ r. ⌜ ((w : Points) (s : DefinedStep) → Closable s → word ≡ closingOf w s → told r ≡ toTell (some s)) ⌝ }
 {
     let rule = word % RULES;
     let u = (word / CELL_U % CELLS) as usize;

@@ -1,4 +1,4 @@
-// The table of partners: a pairing into it and out of it (`table`), and the way back through the steps on the trail
-// (`back`). These are inner functions of lifting.
+// Inner, for lifting: the table of partners. `table` has a pairing into it and out of it, `back` the way back through
+// the steps on the trail.
 pub mod back;
 pub mod table;

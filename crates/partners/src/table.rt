@@ -1,4 +1,4 @@
-// A pairing into the table of partners and out of it: see specs/Table.
+// Inner: a pairing into the table of partners and out of it. See specs/Table.
 use cellfile::decode;
 ghost use mathlib.Core.Path.{_≡_};
 ghost use mathlib.Core.List.{List, map};

@@ -1,5 +1,5 @@
--- Reduce. In order: its steps are allowed; what they leave may be written (`reduce-left`); and that is what reduce is to
--- write (`reduce-passed`). Assumes nothing.
+-- Reduce. In order: its steps are allowed; what they leave may be written (`reduce-left`); and that is what reduce is
+-- to write (`reduce-passed`). Assumes nothing.
 use mathlib.Core.Path.{_≡_, sym, ap, subst, _∙_}
 use mathlib.Core.List.{List, [], _∷_, map}
 use mathlib.Core.Option.{Option, some, none}
@@ -62,7 +62,8 @@ module _ (list : List ℕ) {n slots trail points steps : ℕ} {w1′ w2′ : Lis
       ∙ ap (λ (i : ℕ). writeFile slipLayout (record { cells = i; extra = []; entries = map nameFields ss }))
       (d .cells)
 
-  pub reduce-passed : (lent : List ℕ) → first (listStart list lent) ≡ 0 → (slip short : List ℕ) {slip′ short′ : List ℕ} {a : Answer}
+  pub reduce-passed : (lent : List ℕ) → first (listStart list lent) ≡ 0
+      → (slip short : List ℕ) {slip′ short′ : List ℕ} {a : Answer}
       → Does [] ((takenFile n steps w2′, slip, slip′)
       ∷ (leftFile n points (graphOf slots w1′), short, short′) ∷ []) a
       → Does (listStart list lent) ((slipFile list ss, slip, slip′) ∷ (shortFile list ss, short, short′) ∷ []) a

@@ -1,5 +1,5 @@
--- Replay. In order: a slip that has passed refusal 7 (`slip-room`, `slip-accepted`); what its steps leave may be written
--- (`replay-left`, `left-file`), and that is what replay is to write (`replay-passed`). Assumes nothing.
+-- Replay. In order: what its steps leave may be written (`left-file`, `replay-left`), and that is what replay is to
+-- write (`replay-passed`). Assumes nothing.
 use mathlib.Core.Path.{_≡_, sym, ap, subst, _∙_}
 use mathlib.Core.List.{List, [], _∷_, map}
 use mathlib.Core.Option.{Option, some, none}
@@ -36,7 +36,8 @@ module _ (list slip : List ℕ) {n slots trail points steps : ℕ} {w1′ w2′ 
   replay-left =
       left-there list (d .accepted) (map asName (stepsOf slip)) (d .taken) (d .steps-are) (d .cells) (d .after)
 
-  pub replay-passed : (lent : List ℕ) → first (slipStart list slip lent) ≡ 0 → (out : List ℕ) {out′ : List ℕ} {a : Answer}
+  pub replay-passed : (lent : List ℕ) → first (slipStart list slip lent) ≡ 0
+      → (out : List ℕ) {out′ : List ℕ} {a : Answer}
       → Does [] ((leftFile n points (graphOf slots w1′), out, out′) ∷ []) a
       → Does (slipStart list slip lent) ((replayShort list slip, out, out′) ∷ []) a
   replay-passed lent z out {out′} {a} p =

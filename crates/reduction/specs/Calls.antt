@@ -46,8 +46,8 @@ module _ (list : List ℕ) where
     where
       rows : List Row
       rows =
-          (1, fewWords lent) ∷ (listRows storeList list ++ (7, badSlip (cellsOf list) slip) ∷ (8, disallowed (stand list) slip)
-          ∷ (12, shortOutput ((room, length (replayShort slip)) ∷ [])) ∷ [])
+          (1, fewWords lent) ∷ (listRows storeList list ++ (7, badSlip (cellsOf list) slip)
+          ∷ (8, disallowed (stand list) slip) ∷ (12, shortOutput ((room, length (replayShort slip)) ∷ [])) ∷ [])
 
   -- Reduce: the slip and the short list that it writes; its answer.
   abbrev pub reducing : List ℕ → ℕ → ℕ → Answer

@@ -1,5 +1,5 @@
--- The files that replay and reduce write, from what stands in the buffers. Inner contracts cite this; laws: proofs/Ends,
--- proofs/Replaying and proofs/Reducing.
+-- The files that replay and reduce write, from what stands in the buffers. Inner contracts cite this; laws:
+-- proofs/Ends, proofs/Replaying and proofs/Reducing.
 use mathlib.Core.List.{List, [], _∷_, map}
 use Prim.Native.Nat.{ℕ}
 use lib.ListN.{take, drop}

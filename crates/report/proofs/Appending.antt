@@ -18,7 +18,8 @@ append-both {t} {at = at} {xs = xs} {ys} p q = record {
   stands = q .stands ∙ ap (λ (zs : List ℕ). zs ++ ys) (p .stands) ∙ append-assoc (take at t) xs ys;
 }
 
-pub append-is : {t t′ : List ℕ} {at end : ℕ} {xs ys : List ℕ} → xs ≡ ys → Appended t at xs t′ end → Appended t at ys t′ end
+pub append-is : {t t′ : List ℕ} {at end : ℕ} {xs ys : List ℕ} → xs ≡ ys → Appended t at xs t′ end
+    → Appended t at ys t′ end
 append-is {t} {t′} {at} {end} e p = subst (λ (bytes : List ℕ). Appended t at bytes t′ end) e p
 
 pub append-room : (k rest : ℕ) {t t′ : List ℕ} {at end : ℕ} {xs : List ℕ} → Appended t at xs t′ end → length xs ≤ k

@@ -1,6 +1,6 @@
 -- Laws of numbers in base ten. In order: how long they are (`decimal-few`), with a space before (`number-few`) and in
--- lines (`numbers-few`, `pair-line-few`); the fewest digits, which io::decimal gives, are at most 20 (`fewest-few`) and are
--- those of `decimal` (`decimal-is`); read back they give the number (`decimal-value`), and no zero stands in front
+-- lines (`numbers-few`, `pair-line-few`); the fewest digits, which io::decimal gives, are at most 20 (`fewest-few`) and
+-- are those of `decimal` (`decimal-is`); read back they give the number (`decimal-value`), and no zero stands in front
 -- (`decimal-front`). Assumes nothing.
 use Prim.Native.Nat.{ℕ, zero, suc, _+_, _*_, _-_, _/_, _%_, _^_, _≤_, _<_}
 use mathlib.Core.Path.{_≡_, refl, subst, _∙_}

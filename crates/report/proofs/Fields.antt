@@ -1,6 +1,6 @@
--- The fields that the program prints, from what reduce and pair wrote of an accepted list. In order: the numbers of steps,
--- of carried points and of entries of the short list; the pairs of the pairing, in order and each an entry of the list,
--- so that the merge finds them with their points (`pairs-found`). Assumes nothing.
+-- The fields that the program prints, from what reduce and pair wrote of an accepted list. In order: the numbers of
+-- steps, of carried points and of entries of the short list; the pairs of the pairing, in order and each an entry of
+-- the list, so that the merge finds them with their points (`pairs-found`). Assumes nothing.
 use mathlib.Core.Path.{_≡_, sym, ap, ap₂, subst, _∙_}
 use mathlib.Core.Bool.{true}
 use mathlib.Core.List.{List, [], _∷_, _++_, map}
@@ -87,7 +87,12 @@ module _ (list : List ℕ) (h : first (listRows storeList list) ≡ 0) where
   short-length =
       omega (
         arith,
-        length-file shortLayout (record { cells = n; extra = carried (graphIn list) ss ∷ []; entries = map asFields short }),
+        length-file shortLayout (record {
+          cells = n;
+          extra = carried (graphIn list) ss
+              ∷ [];
+          entries = map asFields short;
+        }),
         length-map short asFields,
       )
 
@@ -115,7 +120,8 @@ module _ (list : List ℕ) (h : first (listRows storeList list) ≡ 0) where
   pub carried-printed : number 8 (drop 4 (shortFile list ss)) ≡ carried (graphIn list) ss
   unfolding packed
   carried-printed =
-      ap (number 8) drop-header ∙ (number-bytes 8 (packed (64 ∷ []) (c ∷ [])) (writeRecords (shortLayout .entry) (map asFields short))
+      ap (number 8) drop-header ∙ (number-bytes 8 (packed (64 ∷ []) (c ∷ []))
+      (writeRecords (shortLayout .entry) (map asFields short))
       ∙ same)
     where
       c : ℕ
@@ -183,7 +189,8 @@ module _ (list : List ℕ) (h : first (listRows storeList list) ≡ 0) where
 
   count-is : countOf (pairingFile list) ≡ length ps
   count-is =
-      sym (length-map (readRecords (pairingLayout .entry) (countOf (pairingFile list)) (drop 4 (pairingFile list))) asPair
+      sym (length-map (readRecords (pairingLayout .entry) (countOf (pairingFile list)) (drop 4 (pairingFile list)))
+      asPair
       ∙ length-read-records (pairingLayout .entry) (countOf (pairingFile list)) (drop 4 (pairingFile list)))
 
   pub pairs-found : {m k : ℕ} → m ≡ countOf list → k ≡ (length (pairingFile list) - 4) / 3

@@ -1,6 +1,6 @@
 -- The merge of entries and pairs, both ascending, finds each pair with its points, where the entries join every pair
--- (`found-is`). In order: an entry of another key changes nothing of a pair (`past-one`, `past-all`); the merge; the sum
--- of the points found (`total-points`). Assumes nothing.
+-- (`found-is`). In order: an entry of another key changes nothing of a pair (`past-one`, `past-all`); the merge; the
+-- sum of the points found (`total-points`). Assumes nothing.
 use mathlib.Core.Path.{_≡_, refl, sym, ap, ap₂, _∙_}
 use mathlib.Core.Logic.{_≢_}
 use mathlib.Core.Bool.{Bool, true, cond}
@@ -57,7 +57,8 @@ found-is [] (p ∷ ps) low low′ o s q r j =
     (let z : ⊥ = omega (arith, j .0, not-joined [] p tt (q .0) tt .0) in absurd z)
 found-is (e ∷ es) [] low low′ o s q r j = refl
 found-is (e ∷ es) (p ∷ ps) low low′ o s q r j =
-    go (eqT (entryKey e) (pairKey p)) (λ k. found-is es ps (suc (entryKey e)) (suc (p .0)) (o .1) (t .1) (q .1) (u .1) k)
+    go (eqT (entryKey e) (pairKey p)) (λ k. found-is es ps (suc (entryKey e)) (suc (p .0)) (o .1) (t .1) (q .1) (u .1)
+    k)
     (λ k. found-is es (p ∷ ps) (suc (entryKey e)) low′ (o .1) (t .1) q r k)
   where
     t : (low ≤ entryKey e) × (ascendingFrom (suc (entryKey e)) (map entryKey es) ≡ true)

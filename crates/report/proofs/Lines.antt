@@ -1,6 +1,6 @@
--- The loop that writes the lines of a pairing's pairs. In order: lines of more entries; the merge from places i and j on
--- (`foundFrom`); what is written when these are reached (`Reached`), at the start, after an entry that is the pair's and
--- after one that is not, and at the end. Assumes nothing.
+-- The loop that writes the lines of a pairing's pairs. In order: lines of more entries; the merge from places i and j
+-- on (`foundFrom`); what is written when these are reached (`Reached`), at the start, after an entry that is the pair's
+-- and after one that is not, and at the end. Assumes nothing.
 use mathlib.Core.Path.{_≡_, refl, sym, ap, subst, _∙_}
 use mathlib.Core.Bool.{false}
 use mathlib.Core.List.{List, [], _∷_, _++_, append-assoc, append-nil, map}

@@ -24,7 +24,8 @@ use Rattle.report.specs.Printed.{line, made, refusal, printed}
 use Rattle.report.proofs.Fields.{slip-most, short-most, pairing-most}
 
 -- The start of an output is the file that was written to it.
-pub written-start : (file out : List ℕ) {out′ : List ℕ} {k : ℕ} → k ≡ length file → out′ ≡ onto file out → take k out′ ≡ file
+pub written-start : (file out : List ℕ) {out′ : List ℕ} {k : ℕ} → k ≡ length file → out′ ≡ onto file out
+    → take k out′ ≡ file
 unfolding onto
 written-start file out {out′} {k} e w =
     ap (take k) w ∙ ap (λ (i : ℕ). take i (onto file out)) e ∙ take-append-seam file _
@@ -57,7 +58,8 @@ module _ (list : List ℕ) (a b : ℕ) (room-a : 8192 ≤ a) (room-b : 8192 ≤ 
     abbrev values : List ℕ
     values = length (slipFile list ss) ∷ length (shortFile list ss) ∷ []
 
-    reducing-is : reducing list (a ∷ b ∷ []) slip-room short-room ≡ answer (first (listRows storeList list ++ rows)) values
+    reducing-is : reducing list (a ∷ b ∷ []) slip-room short-room ≡ answer (first (listRows storeList list ++ rows))
+        values
     reducing-is =
         ap (λ (t : Bool). answer (cond t 1 (first (listRows storeList list ++ rows))) values) enough
 

@@ -1,4 +1,5 @@
--- Laws of bytes put into a text one after the other: one more (`put-next`), and all of them (`put-all`). Assumes nothing.
+-- Laws of bytes put into a text one after the other: one more (`put-next`), and all of them (`put-all`). Assumes
+-- nothing.
 use Prim.Native.Nat.{ℕ, _+_, _≤_, _<_}
 use mathlib.Core.Path.{_≡_, refl, sym, ap, _∙_}
 use mathlib.Core.List.{List, _++_}

@@ -62,7 +62,9 @@ module _ (list : List ℕ) where
 
   -- The first refusal of the program, 0 for none: 2 to 6, and 11.
   abbrev pub refusal : ℕ
-  refusal = first (listRows storeList list ++ (11, crowded (cellsLeft (cellsOf list) (graphAfter list (reduceSteps list)))) ∷ [])
+  refusal =
+      first (listRows storeList list
+      ++ (11, crowded (cellsLeft (cellsOf list) (graphAfter list (reduceSteps list)))) ∷ [])
 
   -- 'A refusal prints only the line "refused" with its number.'
   abbrev pub printed : List ℕ

@@ -1,4 +1,4 @@
-// The text that the program prints: see specs/Printed.
+// The text that the program prints: the call print. See specs/Printed.
 mod pairs;
 mod text;
 

@@ -343,7 +343,14 @@ drop-unmarked (suc a) (suc n) = drop-unmarked a n ∙ ap unmarked {x = n - a} {y
 pub part-marks : (ws ms z : List ℕ) (a e : ℕ) → a ≤ e → e ≤ length ws → z ≡ unmarked (length ws)
     → ms ≡ pathMarks (take (e - a) (drop a ws)) → putMid a (e - a) z ms ≡ partMarks a e ws
 part-marks ws ms z a e h k q m =
-    rw (q, m, post-is a e (unmarked (length ws)) h, take-unmarked a (length ws) (omega arith), drop-unmarked e (length ws))
+    rw (
+      q,
+      m,
+      post-is a e (unmarked (length ws)) h,
+      take-unmarked a (length ws) (omega arith),
+      drop-unmarked e
+          (length ws),
+    )
 
 -- the points without the first pair of a ring, and with it
 abbrev pub out : List ℕ → ℕ

@@ -1,5 +1,5 @@
-// The heaviest pairings of the row of a chain or ring, over its words in reading order: their points, and the best as
-// marks: see specs/Row. These are inner functions of the reduction and of the way back.
+// Inner, for the reduction and the way back: the heaviest pairings of the row of a chain or ring, over its words in
+// reading order. Their points, and the best as marks: see specs/Row.
 ghost use mathlib.Core.Path.{_≡_};
 ghost use mathlib.Core.Logic.{_≢_};
 ghost use mathlib.Core.Bool.{cond};

@@ -1,6 +1,6 @@
 -- The course of steps. In order: a course by its next step (`OneLess`, `course-on`, `course-refused`, `course-ends`,
 -- `course-out`); steps before a course (`behind-append`, `behind-nil`); the step that comes next is found by its name
--- (`next-named`); the trail of steps, one behind the other (`trail-append`), has room (`trail-room`).
+-- (`next-named`). Assumes nothing.
 use mathlib.Core.Path.{_≡_, refl, sym, ap, subst}
 use mathlib.Core.Logic.{_⊎_, inl, inr}
 use mathlib.Core.List.{List, [], _∷_, _++_, append-nil, append-assoc}

@@ -1,6 +1,7 @@
--- A run of leaf steps behind the steps so far. In order: the names of leaf steps as words (`leaf-names`); a course by the
--- steps of a run (`course-more`); that there is room for what was taken (`run-most`); after a run the points carried fit
--- (`run-more-carries`), and what holds before a step holds again (`run-more`, `rings-stay`). Assumes nothing.
+-- A run of leaf steps behind the steps so far. In order: the names of leaf steps as words (`leaf-names`); a course by
+-- the steps of a run (`course-more`); that there is room for what was taken (`run-most`); after a run the points
+-- carried fit (`run-more-carries`), and what holds before a step holds again (`run-more`, `rings-stay`). Assumes
+-- nothing.
 use mathlib.Core.Path.{_≡_, refl, sym, ap, ap₂, subst, _∙_}
 use mathlib.Core.Logic.{_⊎_, inl, inr}
 use mathlib.Core.Bool.{Bool}

@@ -1,8 +1,8 @@
 -- The loop of replay and reduce. In order: the names of a slip one by one (`names-here`, `names-out`); the step that
 -- comes next, as it is found (`next-scanned`, `next-first`) and named (`name-leaf` and so on); what holds before
 -- step k (`Coursing`, `run-start`), what taking it asks (`run-there`), that no leaf and no ring is below the bounds
--- after it (`run-quiet`, `run-rings`), that the rest holds again (`run-on`), and how the loop ends (`run-refused`, `run-ends`, `run-out`).
--- Assumes nothing.
+-- after it (`run-quiet`, `run-rings`), that the rest holds again (`run-on`), and how the loop ends (`run-refused`,
+-- `run-ends`, `run-out`). Assumes nothing.
 use mathlib.Core.Path.{_≡_, refl, sym, ap, ap₂, subst, _∙_}
 use mathlib.Core.Logic.{inl, inr}
 use mathlib.Core.Bool.{Bool}

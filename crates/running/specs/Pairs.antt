@@ -1,4 +1,4 @@
--- The pairs left in the slots, and as words of the short list. Inner contracts cite this.
+-- The pairs left in the slots. Inner contracts cite this.
 use mathlib.Core.Path.{_≡_}
 use mathlib.Core.List.{List}
 use Prim.Native.Nat.{ℕ, _≤_, _<_}

@@ -1,5 +1,4 @@
-// The loop of replay and reduce, on the buffers: see specs/Running and specs/Course. These are inner functions of the
-// reduction.
+// Inner, for the calls: the loop over the steps of a slip and then those of reduce. See specs/Running and specs/Course.
 pub mod lists;
 
 use buffers;
@@ -21,8 +20,8 @@ ghost use Rattle.finding.specs.Finding.{told, toTell, Finds};
 ghost use Rattle.finding.specs.Bounds.{Quiet, RingQuiet};
 ghost use Rattle.running.specs.Running.{RunThere, Runs, namesAt, namesFrom, nextStep, Names, Spare};
 
-// Refusal 8, or what stands in the buffers after the steps: the slots in use, the words on the trail, the points carried,
-// and the number of steps, which stand as words from 6,144 on in the second buffer.
+// Refusal 8, or what stands in the buffers after the steps: the slots in use, the words on the trail, the points
+// carried, and the number of steps, which stand as words from 6,144 on in the second buffer.
 pub enum Ran {
     Refused(u32),
     Done {
@@ -55,8 +54,8 @@ fn name_of(step: Step) -> Name
     }
 }
 
-// Step k: the one that the slip names, or behind its m steps the one that reduce takes. No cell below `low` is a leaf, none
-// below `rings` is named by a ring step.
+// Step k: the one that the slip names, or behind its m steps the one that reduce takes. No cell below `low` is a leaf,
+// none below `rings` is named by a ring step.
 fn next(
     slip: &[u8],
     m: usize,

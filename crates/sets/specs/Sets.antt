@@ -1,5 +1,6 @@
--- A set of at most 12 cells, by their places in a list of cells, as a number whose bits tell which are in it; the points
--- between them; the heaviest pairing of a set. Inner contracts cite this; what they promise is `solve` of crate matching.
+-- A set of at most 12 cells, by their places in a list of cells, as a number whose bits tell which are in it; the
+-- points between them; the heaviest pairing of a set. Inner contracts cite this; what they promise is `solve` of crate
+-- matching.
 --
 -- The first words: the points between place i and place j at 12 × i + j, and from 144 on the cells. In the buffer that
 -- is written, the pairs found stand from 0 on, and from 4,096 on for each set 0, or its points and 1.

@@ -1,4 +1,4 @@
-// The heaviest pairing of a set of at most 12 cells, by their places: see specs/Sets. These are inner functions of solving.
+// Inner, for solving: the heaviest pairing of a set of at most 12 cells, by their places. See specs/Sets.
 ghost use mathlib.Core.Path.{_≡_};
 ghost use mathlib.Core.List.{[], _∷_, map};
 ghost use Prim.Native.Nat.{_^_, _<_, _≤_};

@@ -1,5 +1,5 @@
 -- The search for the live slot of a pair u, v over the slots of u, from the last one down (`Sought`, `seek-start`,
--- `seek-on`, `seek-hit`, `seek-end`). Assumes nothing.
+-- `seek-on`, `seek-hit`, `seek-end`), and what it finds (`found-joins`, `unfound`). Assumes nothing.
 use mathlib.Core.Path.{_≡_, refl, sym, ap, _∙_}
 use mathlib.Core.Logic.{_⊎_, inl, inr, _≢_}
 use mathlib.Core.Bool.{Bool, true, false, not, cond}

@@ -1,6 +1,6 @@
 -- The slots of a cell, for callers that go over them: the last one (`last-slot`), the one before (`slot-before`), the
--- partner in one (`slot-sum`, `slot-joins`); a slot joins two cells in either order (`joins-turned`); a pair with points
--- has a slot (`joins-some`); what holds of the slots passed (`slots-on`). Assumes nothing.
+-- partner in one (`slot-sum`, `slot-joins`); a slot joins two cells in either order (`joins-turned`); a pair with
+-- points has a slot (`joins-some`); what holds of the slots passed (`slots-on`). Assumes nothing.
 use mathlib.Core.Path.{_≡_, sym, _∙_}
 use mathlib.Core.Logic.{inl, inr, _≢_}
 use mathlib.Core.Bool.{Bool, true, false, cond}
@@ -60,7 +60,8 @@ joins-turned {e} {w1} {i} {x} {y} j = record {
 
 -- it has both of them
 pub joins-has : {e : ℕ} {w1 : List ℕ} {i x y : ℕ} → Joins e w1 i x y → touches x (lowOf w1 i) (highOf w1 i) ≡ true
-joins-has {e} {w1} {i} {x} {y} j = passes (hasT (store w1 []) i x) (λ n. go n (holds (joinT (store w1 []) i x y) (j .cells)))
+joins-has {e} {w1} {i} {x} {y} j =
+    passes (hasT (store w1 []) i x) (λ n. go n (holds (joinT (store w1 []) i x y) (j .cells)))
   where
     go : (lowOf w1 i ≢ x) × (highOf w1 i ≢ x) → Same (lowOf w1 i) (highOf w1 i) x y → ⊥
     go n (inl q) = n .0 (sym (q .0))

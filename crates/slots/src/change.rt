@@ -1,4 +1,4 @@
-// Changing the graph that the buffers hold.
+// Inner: changes the graph that the buffers hold.
 use crate::words;
 ghost use mathlib.Core.Path.{_≡_};
 ghost use mathlib.Core.List.{_∷_, []};

@@ -1,5 +1,5 @@
-// The working graph in two lent buffers: see specs/Slots. `change` changes it, `read` reads it. These are inner
-// functions of the reduction.
+// Inner, for the reduction and solving: the working graph in two lent buffers. See specs/Slots. `change` changes it,
+// `read` reads it.
 pub mod change;
 pub mod read;
 mod words;

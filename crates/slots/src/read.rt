@@ -1,4 +1,4 @@
-// Reading the graph that the buffers hold.
+// Inner: reads the graph that the buffers hold.
 use crate::words;
 ghost use mathlib.Core.Path.{_≡_};
 ghost use mathlib.Core.Bool.{true};

@@ -1,4 +1,4 @@
-// Single words of the buffers.
+// Inner: single words of the buffers.
 ghost use mathlib.Core.Path.{_≡_};
 ghost use Prim.Native.Nat.{_+_, _*_, _-_, _<_, _≤_};
 ghost use lib.ListN.{length, getD, set};

@@ -118,7 +118,8 @@ module _ (n k : ℕ) (w : Points) (ws : List ℕ) (few : k ≤ 12) (count : k �
   places-solved =
       ap (λ ps. map (pairOf ws) (solve 12 (between ws) ps)) (first-places k few)
       ∙ sym (map-map pairWord (both (cellAt ws)) (solve 12 (between ws) (numbersBelow k)))
-      ∙ ap (map pairWord) (sym (solve-renamed renames 12 (numbersBelow k) (all-mem (λ i. i < k) (numbersBelow k) (below-all k)))
+      ∙ ap (map pairWord) (sym (solve-renamed renames 12 (numbersBelow k)
+      (all-mem (λ i. i < k) (numbersBelow k) (below-all k)))
       ∙ ap (solve 12 w) all-cells
       ∙ solve-fuel 12 n w (withPairs n w n) (omega (arith, count)) (with-few n w n))
 

@@ -18,8 +18,8 @@ pub record LeftThere (n e : ℕ) (w1 w2 : List ℕ) : Type 0 where
   pub graph : Graph n (graphOf e w1)
   pub small : (a b : ℕ) → graphOf e w1 a b < 17592186044416
 
--- More than 12 cells have pairs; or the pairs of the solution stand as words at the start of the first buffer. Words of the
--- second buffer below 7,168 (the trail, the slip) did not change.
+-- More than 12 cells have pairs; or the pairs of the solution stand as words at the start of the first buffer. Words of
+-- the second buffer below 7,168 (the trail, the slip) did not change.
 pub record SolvedIn (n : ℕ) (w : Points) (w1′ w2 w2′ : List ℕ) (r : ℕ) : Type 0 where
   pub few : cellsLeft n w ≤ 12
   pub most : r ≤ 6

@@ -1,5 +1,4 @@
-// Solving what is left in the slots: see specs/Left, and specs/Gathered for its parts. These are inner functions of solve
-// and pair.
+// Inner, for solve and pair: solves what is left in the slots. See specs/Left, and specs/Gathered for its parts.
 use buffers;
 use sets;
 use slots::read;

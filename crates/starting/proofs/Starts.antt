@@ -1,6 +1,8 @@
--- The first part of a call. In order: rows, and those after them (`start-refused`, `start-passed`, `started`); refusal 1
--- (`few-first`, `few-second`, `enough`); the slip's check (`seven-refused`, `seven-passed`); the steps that the loop
--- took (`takes-refused`, `takes-done`), of a slip (`slip-starts`) and of reduce (`reduce-starts`). Assumes nothing.
+-- The first part of a call. In order: rows, and those after them (`start-refused`, `start-passed`, `started`); the
+-- buffers cleared by a refusal (`settled`, `settled-clears`); refusal 1 (`few-first`, `few-second`, `enough`); the
+-- slip's check (`seven-refused`, `seven-passed`); the steps that the loop took (`takes-refused`, `takes-done`), of a
+-- slip (`slip-starts`) and of reduce (`reduce-starts`); what has passed the slip's check (`slip-accepted`). Assumes
+-- nothing.
 use mathlib.Core.Path.{_≡_, refl, sym, ap, subst, _∙_}
 use mathlib.Core.Bool.{true, false, not}
 use mathlib.Core.List.{List, [], _∷_, _++_, map}

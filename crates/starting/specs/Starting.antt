@@ -1,4 +1,5 @@
--- The first part of a call: its inputs are checked, then its steps taken. Inner contracts cite this; lifting starts so too.
+-- The first part of a call: its inputs are checked, then its steps taken. Inner contracts cite this; lifting starts so
+-- too.
 use mathlib.Core.Path.{_≡_}
 use mathlib.Core.List.{List, [], _∷_, _++_}
 use mathlib.Core.Option.{Option, some, none}

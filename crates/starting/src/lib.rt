@@ -1,5 +1,4 @@
-// The first part of every call with steps: its inputs are checked, then its steps taken. See specs/Starting. These are
-// inner functions of the calls.
+// Inner, for the calls with steps: their first part, which checks the inputs and takes the steps. See specs/Starting.
 use buffers;
 use checks;
 use checks::Checked;

@@ -1,8 +1,8 @@
 -- What is left when pairs are put in place of a row. In order: a pair put where it has no points, put twice, and put
 -- elsewhere (`put-zero`, `put-twice`, `put-beyond`); a pair that gets points, in either order of its cells
--- (`no-points`, `turned-none`, `turned-points`), that goes (`freed-none`, `found-joins`, `freed-kill`), and that gets
--- the larger points (`more-one`, `more-none`, `free-unpaired`, `pair-raised`); the three pairs of a chain's ends
--- (`ends-last`, `ends-first`, `ends-put`). Assumes nothing.
+-- (`no-points`, `turned-none`, `turned-points`), that goes (`freed-none`, `freed-kill`), and that gets the larger
+-- points (`more-one`, `more-none`, `free-unpaired`, `pair-raised`); the three pairs of a chain's ends (`ends-last`,
+-- `ends-first`, `ends-put`). Assumes nothing.
 use mathlib.Core.Path.{_≡_, refl, sym, ap, _∙_, fun-ext}
 use mathlib.Core.Logic.{inl, inr, _≢_}
 use mathlib.Core.Bool.{Bool, cond}

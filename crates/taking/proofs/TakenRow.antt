@@ -1,7 +1,7 @@
--- The row of a ring or a chain is taken pair by pair. In order: words that did not change (`take-same`, `drop-same`); what
--- one pair taken leaves (`pair-taken`); the rest of the row while it is taken (`RowAhead`, `Going`), where it starts, what it gives
--- the next pair, how it goes on and how it ends (`going-start`, `going-two`, `going-pair`, `going-on`, `going-end`).
--- Assumes nothing.
+-- The row of a ring or a chain is taken pair by pair. In order: words that did not change (`take-same`, `drop-same`);
+-- what one pair taken leaves (`pair-taken`); the rest of the row while it is taken (`RowAhead`, `Going`), where it
+-- starts, what it gives the next pair, how it goes on and how it ends (`going-start`, `going-two`, `going-pair`,
+-- `going-on`, `going-end`). Assumes nothing.
 use mathlib.Core.Path.{_≡_, refl, sym, ap, subst, _∙_}
 use mathlib.Core.Logic.{_⊎_, inl, inr, _≢_}
 use mathlib.Core.Bool.{true, false, cond}
@@ -252,7 +252,8 @@ going-end {e} {w1₀} {w2₀} {t} {u} {f} {i} {v} r {w1} {w2} {prev} {at} {slot}
     go (h .rest) (h .next) (h .ahead)
   where
     go : (rest : List ℕ) → at ≡ first v rest
-        → RowAhead e w1₀ w2₀ t u (innerAt e w1₀ u f) v w1 w2 prev slot k rest → RowTaken e w1₀ w2₀ w1′ w2′ t u f v (k + 1)
+        → RowAhead e w1₀ w2₀ t u (innerAt e w1₀ u f) v w1 w2 prev slot k rest
+        → RowTaken e w1₀ w2₀ w1′ w2′ t u f v (k + 1)
     go (c ∷ cs) q a = absurd (mem-not v c cs (a .last-off) .0 (sym q ∙ z))
     go [] q a = record {
       count = omega (arith, a .count);

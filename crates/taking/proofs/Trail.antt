@@ -1,5 +1,6 @@
--- The trail. In order: that of steps one behind the other (`trail-append`), and that 4,096 words hold the trail of every slip
--- that is allowed (`trail-room`). Assumes nothing.
+-- The trail. In order: that of steps one behind the other (`trail-append`); 4,096 words hold the trail of every slip
+-- that is allowed (`trail-room`); a run has the same words in a graph that says the same of its cells (`words-same`).
+-- Assumes nothing.
 use mathlib.Core.Path.{_≡_, refl, sym, ap, _∙_, ap₂}
 use mathlib.Core.List.{List, [], _∷_, _++_, append-assoc}
 use Prim.Native.Nat.{ℕ, suc, _+_, _*_, _≤_}

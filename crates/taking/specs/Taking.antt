@@ -1,4 +1,4 @@
--- What taking one pair of a row leaves. Inner contracts cite this.
+-- What taking a row, and one pair of it, asks and leaves. Inner contracts cite this.
 use mathlib.Core.Path.{_≡_}
 use mathlib.Core.List.{List, [], _∷_, _++_}
 use Prim.Native.Nat.{ℕ, _+_, _*_, _≤_, _<_, suc}

@@ -1,5 +1,5 @@
-// Taking a step that was found: see specs/Applying and specs/Trail, and specs/Putting for its parts. These are inner
-// functions of the reduction.
+// Inner, for the reduction: takes a step that was found. See specs/Applying and specs/Trail, and specs/Putting for its
+// parts.
 mod row;
 
 use finding;

@@ -1,4 +1,4 @@
-// Taking the row of a ring or a chain from the working graph: see specs/Taking.
+// Inner: takes the row of a ring or a chain from the working graph. See specs/Taking.
 use slots::change;
 use slots::read;
 ghost use mathlib.Core.Path.{_≡_};

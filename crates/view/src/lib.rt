@@ -1,4 +1,4 @@
-// A view that holds a lent list and serves its entries. See specs/Serving.
+// The view, which holds a lent list and serves its entries: the calls view_of, serve and entry_of. See specs/Serving.
 use cellfile::decode;
 use checks;
 use checks::Checked;

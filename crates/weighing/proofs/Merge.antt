@@ -1,7 +1,5 @@
--- The merge of entries and pairs, both ascending, finds the pairs and their points (`merged-is`). Assumes nothing.
--- The cells of an entry and of a pair are in their order and below 1,024, so the two are the same where their keys are
--- equal (`keyT`). In order: keys; what ascends (`entries-above`, `pairs-above`); what an entry says of a pair, by
--- their keys; the merge.
+-- The merge of entries and pairs, both ascending, finds the pairs and their points (`merged-is`). In order: what an
+-- entry says of pairs above it (`past`) and of the first pair (`met`); the merge. Assumes nothing.
 use mathlib.Core.Path.{_≡_, refl, ap₂, _∙_}
 use mathlib.Core.Logic.{_≢_}
 use mathlib.Core.Bool.{Bool, true, cond}

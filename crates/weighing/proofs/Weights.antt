@@ -1,5 +1,5 @@
--- Laws of weighing: what an accepted list and pairing are like, and what each layer of the call answers; the whole call
--- answers the points just where nothing is refused (`weigh-passes`, `weigh-sound`).
+-- Laws of weighing: what each layer of the call answers; the whole call answers the points just where nothing is
+-- refused (`weigh-passes`, `weigh-sound`).
 use Prim.Native.Nat.{ℕ, _+_, _<_, _≤_}
 use mathlib.Core.Path.{_≡_, refl, sym, ap, ap₂, _∙_}
 use mathlib.Core.Bool.{Bool, true, false, not, cond, _&&_}

@@ -9,8 +9,8 @@ use Rattle.cellfile.specs.Files.{key}
 use Rattle.weighing.specs.declared.Weighed.{Weighed}
 use Rattle.weighing.specs.declared.Weighed.the-variants.{Refused, Points}
 
--- The points of the pairs found in the entries, both ascending, added to what was found before; 10 where one is missing.
--- Law: proofs/Merge, `merged-is`.
+-- The points of the pairs found in the entries, both ascending, added to what was found before; 10 where one is
+-- missing. Law: proofs/Merge, `merged-is`.
 abbrev pub merged : List Entry → List Pair → ℕ → Weighed
 merged es [] found = Points found
 merged [] (p ∷ ps) found = Refused 10

@@ -35,7 +35,8 @@ returns c =
       (
         ap (valueOr 0 (a .pairing-len .now)) e,
         (
-          w .1 .0 ∙ ap (λ (x : Answer). written (x .0) (solveFile (a .list .now) (a .slip .now)) (a .pairing .now)) (w .0),
+          w .1 .0 ∙ ap (λ (x : Answer). written (x .0) (solveFile (a .list .now) (a .slip .now)) (a .pairing .now))
+              (w .0),
           w .1 .1,
         ),
       ),
@@ -60,7 +61,8 @@ returns-2 c =
       (
         ap (valueOr 0 (a .pairing-len .now)) e,
         (
-          w .1 .0 ∙ ap (λ (x : Answer). written (x .0) (solveFile (a .list .now) (a .slip .now)) (a .pairing .now)) (w .0),
+          w .1 .0 ∙ ap (λ (x : Answer). written (x .0) (solveFile (a .list .now) (a .slip .now)) (a .pairing .now))
+              (w .0),
           w .1 .1,
         ),
       ),

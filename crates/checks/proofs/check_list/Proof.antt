@@ -48,7 +48,8 @@ returns-3 c =
     row-4 _ _ (not-2 (g .before .before .before)) (not-3 (g .before))
     (length-wrong _ _ (g .header-at .ensures) (c .if3 .taken))
 
-not-4 : (g : tie.Else3) → wrongLength storeList (g .before .before .before .before .before .before .before .args .list .now) ≡ false
+not-4 : (g : tie.Else3) → wrongLength storeList (g .before .before .before .before .before .before .before .args .list
+    .now) ≡ false
 not-4 g = length-right _ _ (g .before .header-at .ensures) (g .if3 .left)
 
 stray-entry-requires : tie.Need-stray-entry-requires
@@ -60,7 +61,8 @@ returns-4 c =
     row-5 _ _ (not-2 (g .before .before .before .before)) (not-3 (g .before .before)) (not-4 g)
     (stray-is _ _ (g .before .header-at .ensures) ∙ sym (c .before .stray-entry .ensures) ∙ c .if4 .taken)
 
-not-5 : (g : tie.Else4) → strayEntry storeList (g .before .before .before .before .before .before .before .before .before .args .list .now) ≡ false
+not-5 : (g : tie.Else4) → strayEntry storeList (g .before .before .before .before .before .before .before .before
+    .before .args .list .now) ≡ false
 not-5 g =
     let at-header-at = g .before .before .before in
     stray-is _ _ (at-header-at .header-at .ensures) ∙ sym (g .before .stray-entry .ensures) ∙ g .if4 .left

@@ -16,7 +16,8 @@ returns c = row-holds 8 _ (pairing-head _ _ (sym (c .before .wrong-head .ensures
 header-at-requires : tie.Need-header-at-requires
 header-at-requires c κs = search needs
 
-headed : (g : tie.Else1) → misheaded 4 3 (g .before .before .before .args .n) (g .before .before .before .args .pairing .now) ≡ false
+headed : (g : tie.Else1) → misheaded 4 3 (g .before .before .before .args .n)
+    (g .before .before .before .args .pairing .now) ≡ false
 headed g = sym (g .before .wrong-head .ensures) ∙ g .if1 .left
 
 bad-pairs-requires : tie.Need-bad-pairs-requires

@@ -16,7 +16,8 @@ returns c = row-holds 6 _ (slip-head _ _ (sym (c .before .wrong-head .ensures) �
 header-at-requires : tie.Need-header-at-requires
 header-at-requires c κs = search needs
 
-headed : (g : tie.Else1) → misheaded 3 2 (g .before .before .before .args .n) (g .before .before .before .args .slip .now) ≡ false
+headed : (g : tie.Else1) → misheaded 3 2 (g .before .before .before .args .n)
+    (g .before .before .before .args .slip .now) ≡ false
 headed g = sym (g .before .wrong-head .ensures) ∙ g .if1 .left
 
 no-rule-requires : tie.Need-no-rule-requires

@@ -16,7 +16,8 @@ use Rattle.checks.proofs.no_rule.Statement.{statement}
 use Rattle.checks.proofs.no_rule.Tie as tie
 
 abbrev Inv-loop : tie.InvT-loop
-Inv-loop s m i₀ i = (i ≤ m) × (ruleless (readRecords (slip .entry) m (drop 4 s)) ≡ ruleless (from (slip .entry) s 4 m i))
+Inv-loop s m i₀ i =
+    (i ≤ m) × (ruleless (readRecords (slip .entry) m (drop 4 s)) ≡ ruleless (from (slip .entry) s 4 m i))
 
 abbrev μ-loop : tie.MeasureT-loop
 μ-loop s m i₀ i = m - i

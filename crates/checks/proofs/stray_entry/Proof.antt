@@ -33,7 +33,11 @@ here : (g : tie.After-entry-at Inv-loop μ-loop) → EntryRead (drop (at g) (lis
 here g = part (λ s. EntryRead s (g .entry-at .result)) (list g) (at g) (g .entry-at .ensures)
 
 loop-holds : tie.Need-loop-holds Inv-loop μ-loop
-loop-holds c = (omega arith, ap (stray (c .before .args .n)) (from-start (storeList .entry) (c .before .args .list .now) 4 (c .before .args .m)))
+loop-holds c = (
+  omega arith,
+  ap (stray (c .before .args .n)) (from-start (storeList .entry) (c .before .args .list .now) 4
+      (c .before .args .m)),
+)
 
 mul-at : tie.Need-mul-at Inv-loop μ-loop
 mul-at c = search needs

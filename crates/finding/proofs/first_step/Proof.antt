@@ -30,7 +30,8 @@ returns-2 c =
     first-ring (s .args .e) (s .args .w1 .now) (s .args .n) (s .pre .2) (s .pre .1)
     (from-low (s .pre .0) (s .args .low) (s .args .n) (s .pre .3) leaves)
     (c .before .before .enum-told .given .1)
-    (from-bound (s .pre .0) by-ring (s .args .rings) (s .args .n) (s .pre .4) (c .before .scan2 .ensures)) (c .match2 .keys2)
+    (from-bound (s .pre .0) by-ring (s .args .rings) (s .args .n) (s .pre .4) (c .before .scan2 .ensures))
+    (c .match2 .keys2)
 
 scan-requires-3 : tie.Need-scan-requires-3
 scan-requires-3 c κs = search needs
@@ -42,7 +43,8 @@ returns-3 c =
     first-chain (s .args .e) (s .args .w1 .now) (s .args .n) (s .pre .2) (s .pre .1)
     (from-low (s .pre .0) (s .args .low) (s .args .n) (s .pre .3) leaves)
     (c .before .before .before .before .enum-told .given .1)
-    (from-bound (s .pre .0) by-ring (s .args .rings) (s .args .n) (s .pre .4) (c .before .before .before .scan2 .ensures))
+    (from-bound (s .pre .0) by-ring (s .args .rings) (s .args .n) (s .pre .4)
+    (c .before .before .before .scan2 .ensures))
     (c .before .enum-told2 .given .1) (c .scan3 .ensures)
 
 pub first-step-spec : {M : Type 1} → statement M

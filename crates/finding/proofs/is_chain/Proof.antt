@@ -25,8 +25,10 @@ degree-requires-2 c κs = search needs
 returns-4 : tie.Need-returns-4
 returns-4 c =
     let s = c .before .before .before .before .before .before .before .args in
-    chain-tells (graphOf (s .e) (s .w1 .now)) (s .u) (s .p) (s .before) (s .end) (omega (arith, c .before .before .before .before .if1 .left))
-    (c .before .before .before .if2 .left) (λ q. c .before .if3 .left (c .before .before .degree .ensures ∙ q)) (c .degree2 .ensures)
+    chain-tells (graphOf (s .e) (s .w1 .now)) (s .u) (s .p) (s .before) (s .end)
+    (omega (arith, c .before .before .before .before .if1 .left))
+    (c .before .before .before .if2 .left) (λ q. c .before .if3 .left (c .before .before .degree .ensures ∙ q))
+    (c .degree2 .ensures)
 
 pub is-chain-spec : {M : Type 1} → statement M
 is-chain-spec =

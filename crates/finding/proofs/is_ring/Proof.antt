@@ -22,7 +22,8 @@ degree-requires c κs = search needs
 returns-4 : tie.Need-returns-4
 returns-4 c =
     let s = c .before .before .before .before .before .before .args in
-    ring-tells (graphOf (s .e) (s .w1 .now)) (s .z) (s .u) (s .p) (s .before) (s .end) (c .before .before .before .if1 .left)
+    ring-tells (graphOf (s .e) (s .w1 .now)) (s .z) (s .u) (s .p) (s .before) (s .end)
+    (c .before .before .before .if1 .left)
     (omega (arith, c .before .before .if2 .left)) (omega (arith, c .before .if3 .left)) (c .degree .ensures)
 
 pub is-ring-spec : {M : Type 1} → statement M

@@ -45,7 +45,8 @@ returns c =
     let p = l .loop .inv .passed in
     let a = c .before .if1 .taken in
     λ q. let m = c .ring-rules-out .ensures q in
-    ⊎-elim (λ n. met-chain g p (rule-chain (s .4) n) a (m .0)) (λ k. met-lowest g p _ (rule-row (s .4)) a (m .0) k) (m .1)
+    ⊎-elim (λ n. met-chain g p (rule-chain (s .4) n) a (m .0)) (λ k. met-lowest g p _ (rule-row (s .4)) a (m .0) k)
+    (m .1)
 
 degree-requires : tie.Need-degree-requires Inv-loop μ-loop
 degree-requires c κs =

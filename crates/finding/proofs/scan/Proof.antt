@@ -32,7 +32,11 @@ search-holds : tie.Need-search-holds Inv-slots μ-slots Inv-search μ-search
 search-holds c = (barren-start, c .nothing .ensures)
 
 start-requires : tie.Need-start-requires Inv-slots μ-slots Inv-search μ-search
-start-requires c κs = (c .before .before .before .before .before .pre .0, omega (arith, c .before .before .before .before .before .pre .1, c .search-test .taken))
+start-requires c κs = (
+  c .before .before .before .before .before .pre .0,
+  omega
+      (arith, c .before .before .before .before .before .pre .1, c .search-test .taken),
+)
 
 slots-holds : tie.Need-slots-holds Inv-slots μ-slots Inv-search μ-search
 slots-holds c = (c .start .ensures, c .before .before .search .inv .1)
@@ -45,8 +49,13 @@ step-by-requires c κs =
     let l = c .before .slots in
     let q : l .i ≡ suc (l .i - 1) = omega (arith, c .slots-test .taken) in
     let s = c .before .before .before .before .before .before .before .before .pre in
-    let n = l .inv .0 in
-    (s .0, omega (arith, s .1, c .before .before .before .search-test .taken), omega (arith, n .top, q), n .has _ q, n .fits _ q)
+    let n = l .inv .0 in (
+      s .0,
+      omega (arith, s .1, c .before .before .before .search-test .taken),
+      omega (arith, n .top, q),
+      n .has _ q,
+      n .fits _ q,
+    )
 
 enum-told : tie.Need-enum-told Inv-slots μ-slots Inv-search μ-search
 enum-told c = search needs
@@ -54,8 +63,12 @@ enum-told c = search needs
 slot-before-requires : tie.Need-slot-before-requires Inv-slots μ-slots Inv-search μ-search
 slot-before-requires c κs =
     let l = c .before .before .before .before .slots in
-    let q : l .i ≡ suc (l .i - 1) = omega (arith, c .before .before .before .slots-test .taken) in
-    (c .before .before .before .before .before .before .before .before .before .before .before .pre .0, omega (arith, l .inv .0 .top, q), l .inv .0 .has _ q)
+    let q : l .i ≡ suc (l .i - 1) = omega (arith, c .before .before .before .slots-test .taken) in (
+      c .before .before .before .before .before .before .before .before .before .before .before .pre .0,
+      omega
+          (arith, l .inv .0 .top, q),
+      l .inv .0 .has _ q,
+    )
 
 slots-less : tie.Need-slots-less Inv-slots μ-slots Inv-search μ-search
 slots-less c =
@@ -66,13 +79,19 @@ slots-again c =
     let l = c .before .before .before .before .before .slots in
     let h = c .before .before .before .before .before .before .before .before .before .before .before .before .pre .0 in
     let q : l .i ≡ suc (l .i - 1) = omega (arith, c .before .before .before .before .slots-test .taken) in (
-      unmet-on h (rw q at (l .inv .0)) (none-at-slot h (c .before .before .before .step-by .ensures) (c .before .enum-told .given .1))
+      unmet-on h (rw q at (l .inv .0)) (none-at-slot h (c .before .before .before .step-by .ensures)
+          (c .before .enum-told .given .1))
           (c .slot-before .ensures),
       l .inv .1,
     )
 
 add-c : tie.Need-add-c Inv-slots μ-slots Inv-search μ-search
-add-c c = omega (arith, c .before .before .before .before .before .before .before .before .pre .1, c .before .before .before .search-test .taken)
+add-c c =
+    omega (
+      arith,
+      c .before .before .before .before .before .before .before .before .pre .1,
+      c .before .before .before .search-test .taken,
+    )
 
 search-less : tie.Need-search-less Inv-slots μ-slots Inv-search μ-search
 search-less c = omega (arith, c .before .before .before .search-test .taken)
@@ -80,17 +99,23 @@ search-less c = omega (arith, c .before .before .before .search-test .taken)
 search-again : tie.Need-search-again Inv-slots μ-slots Inv-search μ-search
 search-again c =
     let l = c .before .slots in
-    let z : l .i ≡ 0 = omega (arith, c .slots-test .left) in
-    (barren-on (c .before .before .before .before .search .inv .0) (unmet-end (c .before .before .before .before .before .before .before .before .pre .0) (rw z at (l .inv .0))), l .inv .1)
+    let z : l .i ≡ 0 = omega (arith, c .slots-test .left) in (
+      barren-on (c .before .before .before .before .search .inv .0)
+          (unmet-end (c .before .before .before .before .before .before .before .before .pre .0) (rw z at (l .inv .0))),
+      l .inv .1,
+    )
 
 returns : tie.Need-returns Inv-slots μ-slots Inv-search μ-search
 returns c =
     let l = c .before .search in
-    scan-none (c .before .before .before .before .before .pre .0) (l .inv .0) (omega (arith, c .search-test .left)) (l .inv .1)
+    scan-none (c .before .before .before .before .before .pre .0) (l .inv .0) (omega (arith, c .search-test .left))
+    (l .inv .1)
 
 returns-2 : tie.Need-returns-2 Inv-slots μ-slots Inv-search μ-search
 returns-2 c =
-    scan-some (c .before .before .before .before .before .before .before .before .before .before .pre .0) (c .before .before .before .before .before .before .search .inv .0) (c .before .before .before .before .before .search-test .taken) (c .before .step-by .ensures) (c .match .keys2)
+    scan-some (c .before .before .before .before .before .before .before .before .before .before .pre .0)
+    (c .before .before .before .before .before .before .search .inv .0)
+    (c .before .before .before .before .before .search-test .taken) (c .before .step-by .ensures) (c .match .keys2)
 
 pub scan-spec : {M : Type 1} → statement M
 scan-spec =

@@ -39,7 +39,9 @@ row-by-requires c κs =
     (s .0, p .0, p .1, s .1, c .if2 .left, s .4 ∙ row-degree (c .if2 .left))
 
 returns-3 : tie.Need-returns-3
-returns-3 c = slot-row (c .before .before .before .before .before .before .before .pre .0) (c .before .before .partner .ensures .0) (c .row-by .ensures)
+returns-3 c =
+    slot-row (c .before .before .before .before .before .before .before .pre .0)
+    (c .before .before .partner .ensures .0) (c .row-by .ensures)
 
 pub step-by-spec : {M : Type 1} → statement M
 step-by-spec =

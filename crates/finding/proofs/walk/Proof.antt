@@ -22,8 +22,13 @@ degree-requires c κs = (c .before .before .before .before .before .pre .0, c .b
 
 step-on-requires : tie.Need-step-on-requires Inv-loop μ-loop
 step-on-requires c κs =
-    let l = c .before .before .before .before .loop in
-    (c .before .before .before .before .before .before .before .pre .0, l .inv .below, l .inv .joins, omega (arith, c .before .degree .ensures, c .if2 .left))
+    let l = c .before .before .before .before .loop in (
+      c .before .before .before .before .before .before .before .pre .0,
+      l .inv .below,
+      l .inv .joins,
+      omega
+          (arith, c .before .degree .ensures, c .if2 .left),
+    )
 
 sub-left : tie.Need-sub-left Inv-loop μ-loop
 sub-left c = omega (arith, c .before .before .before .before .loop-test .taken)
@@ -34,7 +39,8 @@ loop-less c = omega (arith, c .before .before .before .before .loop-test .taken)
 loop-again : tie.Need-loop-again Inv-loop μ-loop
 loop-again c =
     let l = c .before .before .before .before .before .loop in
-    walk-on (l .inv) (omega (arith, c .before .before .before .before .loop-test .taken)) (omega (arith, c .before .before .before .if1 .left))
+    walk-on (l .inv) (omega (arith, c .before .before .before .before .loop-test .taken))
+    (omega (arith, c .before .before .before .if1 .left))
     (omega (arith, c .before .before .degree .ensures, c .before .if2 .left)) (c .step-on .ensures)
 
 returns : tie.Need-returns Inv-loop μ-loop
@@ -44,13 +50,15 @@ returns-2 : tie.Need-returns-2 Inv-loop μ-loop
 returns-2 c =
     let l = c .before .before .loop in
     walk-stops (l .inv)
-    (stretch-ends (holds-graph (c .before .before .before .before .before .pre .0)) (c .before .before .before .before .before .args .low) (l .left) (l .last) (l .end) (inl (c .if1 .taken)))
+    (stretch-ends (holds-graph (c .before .before .before .before .before .pre .0))
+    (c .before .before .before .before .before .args .low) (l .left) (l .last) (l .end) (inl (c .if1 .taken)))
 
 returns-3 : tie.Need-returns-3 Inv-loop μ-loop
 returns-3 c =
     let l = c .before .before .before .before .loop in
     walk-stops (l .inv)
-    (stretch-ends (holds-graph (c .before .before .before .before .before .before .before .pre .0)) (c .before .before .before .before .before .before .before .args .low) (l .left) (l .last) (l .end)
+    (stretch-ends (holds-graph (c .before .before .before .before .before .before .before .pre .0))
+    (c .before .before .before .before .before .before .before .args .low) (l .left) (l .last) (l .end)
     (inr (λ q. c .if2 .taken (c .before .degree .ensures ∙ q))))
 
 pub walk-spec : {M : Type 1} → statement M

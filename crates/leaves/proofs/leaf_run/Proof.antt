@@ -61,7 +61,8 @@ same-length-6 : tie.Need-same-length-6
 same-length-6 c = search needs
 
 returns-4 : tie.Need-returns-4
-returns-4 c = run-none (c .before .before .before .before .before .before .before .pre .0) (c .before .first-leaf .ensures .0)
+returns-4 c =
+    run-none (c .before .before .before .before .before .before .before .pre .0) (c .before .first-leaf .ensures .0)
 
 pub leaf-run-spec : {M : Type 1} → statement M
 leaf-run-spec =

@@ -23,8 +23,11 @@ same-length-2 c = search needs
 returns : tie.Need-returns
 returns c =
     let d = c .before .before .before .before .before .before .before .before .lessen-all in
-    let s = c .before .before .before .before .before .before .before .before .before .before .before .before .before .before .before .before .before .before in
-    run-taken (s .pre) (c .before .before .before .before .before .before .before .before .before .before .before .before .before .take-leaves .ensures) (d .ensures) (d .kept .1 .0) (quiet-zero _)
+    let s =
+    c .before .before .before .before .before .before .before .before .before .before .before .before .before .before
+    .before .before .before .before in
+    run-taken (s .pre) (c .before .before .before .before .before .before .before .before .before .before .before
+    .before .before .take-leaves .ensures) (d .ensures) (d .kept .1 .0) (quiet-zero _)
 
 same-length-3 : tie.Need-same-length-3
 same-length-3 c = search needs
@@ -35,8 +38,12 @@ same-length-4 c = search needs
 returns-2 : tie.Need-returns-2
 returns-2 c =
     let d = c .before .before .before .before .before .before .before .before .lessen-all in
-    let s = c .before .before .before .before .before .before .before .before .before .before .before .before .before .before .before .before .before .before in
-    let o = c .before .before .before .before .before .before .before .before .before .before .before .before .before .take-leaves .ensures in
+    let s =
+    c .before .before .before .before .before .before .before .before .before .before .before .before .before .before
+    .before .before .before .before in
+    let o =
+    c .before .before .before .before .before .before .before .before .before .before .before .before .before
+    .take-leaves .ensures in
     run-taken (s .pre) o (d .ensures) (d .kept .1 .0)
     (run-quiet (s .pre) o (d .ensures) (d .kept .1 .0) (λ q. c .if1 .left (c .before .degree .ensures ∙ q)))
 

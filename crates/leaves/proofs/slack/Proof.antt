@@ -1,5 +1,5 @@
--- `slack` goes over the slots of u. Invariant: `least` is not above the points of the slots from i on that join u with a
--- cell that is no leaf, and `most` not above those of some pair at u.
+-- `slack` goes over the slots of u. Invariant: `least` is not above the points of the slots from i on that join u with
+-- a cell that is no leaf, and `most` not above those of some pair at u.
 use mathlib.Core.Path.{_≡_}
 use Prim.Native.Nat.{suc, _-_}
 use native.Mathlib.Omega.{arith}

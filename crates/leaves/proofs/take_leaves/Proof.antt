@@ -27,13 +27,30 @@ due-requires c κs =
     (c .before .before .loop .inv .1 .holds, omega (arith, c .before .loop-test .taken, p .cells))
 
 add-cell : tie.Need-add-cell Inv-loop μ-loop
-add-cell c = omega (arith, c .before .before .before .before .loop-test .taken, c .before .before .before .before .before .before .before .before .before .before .pre .cells)
+add-cell c =
+    omega (
+      arith,
+      c .before .before .before .before .loop-test .taken,
+      c .before .before .before .before .before .before .before .before .before .before .pre .cells,
+    )
 
 add-note : tie.Need-add-note Inv-loop μ-loop
-add-note c = omega (arith, c .before .before .if2 .left, c .before .before .before .before .before .before .before .before .before .before .before .before .pre .trail-room)
+add-note c =
+    omega (
+      arith,
+      c .before .before .if2 .left,
+      c .before .before .before .before .before .before .before .before
+          .before .before .before .before .pre .trail-room,
+    )
 
 add-note-2 : tie.Need-add-note-2 Inv-loop μ-loop
-add-note-2 c = omega (arith, c .before .before .if2 .left, c .before .before .before .before .before .before .before .before .before .before .before .before .pre .names-room)
+add-note-2 c =
+    omega (
+      arith,
+      c .before .before .if2 .left,
+      c .before .before .before .before .before .before .before .before
+          .before .before .before .before .pre .names-room,
+    )
 
 note-requires : tie.Need-note-requires Inv-loop μ-loop
 note-requires c κs =
@@ -47,18 +64,28 @@ note-requires c κs =
     )
 
 add-steps : tie.Need-add-steps Inv-loop μ-loop
-add-steps c = omega (arith, c .before .before .before .before .before .if2 .left, c .before .before .before .before .before .before .before .before .before .before .before .before .before .before .before .pre .names-room)
+add-steps c =
+    omega (
+      arith,
+      c .before .before .before .before .before .if2 .left,
+      c .before .before .before .before .before .before .before .before .before .before .before .before .before .before
+          .before .pre .names-room,
+    )
 
 loop-less : tie.Need-loop-less Inv-loop μ-loop
 loop-less c = omega (arith, c .before .before .before .before .before .before .before .before .before .loop-test .taken)
 
 loop-again : tie.Need-loop-again Inv-loop μ-loop
 loop-again c =
-    let p = c .before .before .before .before .before .before .before .before .before .before .before .before .before .before .before .pre in
+    let p =
+    c .before .before .before .before .before .before .before .before .before .before .before .before .before .before
+    .before .pre in
     let l = c .before .before .before .before .before .before .before .before .before .before .loop in (
       c .before .before .note .kept .0 ∙ l .inv .0,
-      running-take p (l .inv .1) (c .before .before .before .before .before .before .before .due .ensures) (omega (arith, c .before .before .before .before .before .before .if1 .left))
-          (c .before .before .before .before .if3 .taken) (omega (arith, c .before .before .before .before .before .if2 .left)) (c .before .before .note .ensures),
+      running-take p (l .inv .1) (c .before .before .before .before .before .before .before .due .ensures)
+          (omega (arith, c .before .before .before .before .before .before .if1 .left))
+          (c .before .before .before .before .if3 .taken)
+          (omega (arith, c .before .before .before .before .before .if2 .left)) (c .before .before .note .ensures),
     )
 
 loop-less-2 : tie.Need-loop-less-2 Inv-loop μ-loop
@@ -83,13 +110,17 @@ same-length-2 : tie.Need-same-length-2 Inv-loop μ-loop
 same-length-2 c = c .before .before .before .before .loop .inv .0
 
 returns-2 : tie.Need-returns-2 Inv-loop μ-loop
-returns-2 c = running-end (c .before .before .before .before .before .before .before .before .before .pre) (c .before .before .before .before .loop .inv .1)
+returns-2 c =
+    running-end (c .before .before .before .before .before .before .before .before .before .pre)
+    (c .before .before .before .before .loop .inv .1)
 
 same-length-3 : tie.Need-same-length-3 Inv-loop μ-loop
 same-length-3 c = c .before .before .before .before .before .loop .inv .0
 
 returns-3 : tie.Need-returns-3 Inv-loop μ-loop
-returns-3 c = running-end (c .before .before .before .before .before .before .before .before .before .before .pre) (c .before .before .before .before .before .loop .inv .1)
+returns-3 c =
+    running-end (c .before .before .before .before .before .before .before .before .before .before .pre)
+    (c .before .before .before .before .before .loop .inv .1)
 
 pub take-leaves-spec : {M : Type 1} → statement M
 take-leaves-spec =

@@ -59,7 +59,13 @@ slice-reshare-prefix-print-paired c =
     let at-s = c .before .before .before in
     let at = at-s .before .before .before .before .before .before .before .before .before .before in
     let p = passes at-s in
-    omega (arith, p .2, short-most (list at-s) (p .0), at .reduce .kept .1 .1 .1 .1 .0, at .before .before .before .before .before .before .before .before .before .before .before .before .pre .3)
+    omega (
+      arith,
+      p .2,
+      short-most (list at-s) (p .0),
+      at .reduce .kept .1 .1 .1 .1 .0,
+      at .before .before .before .before .before .before .before .before .before .before .before .before .pre .3,
+    )
 
 slice-aggregate-print-paired : tie.Need-slice-aggregate-print-paired
 slice-aggregate-print-paired c =

@@ -14,22 +14,29 @@ use Rattle.report.proofs.print_made.Tie as tie
 
 -- the files have their headers
 least : (c : tie.After-header-at)
-    → (4 ≤ length (c .before .before .before .before .before .args .pairing .now)) × (4 ≤ c .before .before .before .before .before .args .slip-length) × (12 ≤ length (c .before .before .before .before .before .args .short .now))
+    → (4 ≤ length (c .before .before .before .before .before .args .pairing .now))
+    × (4 ≤ c .before .before .before .before .before .args .slip-length)
+    × (12 ≤ length (c .before .before .before .before .before .args .short .now))
 least c =
     let s = c .before .before .before .before .before .pre in
     lengths-least (c .before .before .before .before .before .args .list .now) (s .0) (s .1) (c .header-at .ensures .m)
 
 -- where the first three lines end
 first-end : (c : tie.After-line) → c .line .result ≤ 29
-first-end c = line-ends (ascii "steps") ((c .before .before .before .before .before .before .before .before .before .before .args .slip-length - 4) / 2) (omega arith) (c .line .ensures)
+first-end c =
+    line-ends (ascii "steps") ((c .before .before .before .before .before .before .before .before .before .before .args
+    .slip-length - 4) / 2) (omega arith) (c .line .ensures)
 
 second-end : (c : tie.After-line2) → c .line2 .result ≤ c .before .before .before .before .before .line .result + 29
-second-end c = line-ends (ascii "carried") (c .before .before .before .before .before .before .before .before .number-at .result) (omega arith) (c .line2 .ensures)
+second-end c =
+    line-ends (ascii "carried") (c .before .before .before .before .before .before .before .before .number-at .result)
+    (omega arith) (c .line2 .ensures)
 
 third-end : (c : tie.After-line3) → c .line3 .result ≤ c .before .before .before .before .before .line2 .result + 29
 third-end c =
     let one = c .before .before .before .before .before .before .before .before .before .before in
-    line-ends (ascii "short") ((length (one .before .before .before .before .before .before .before .before .before .before .args .short .now) - 12) / 8) (omega arith) (c .line3 .ensures)
+    line-ends (ascii "short") ((length (one .before .before .before .before .before .before .before .before .before
+    .before .args .short .now) - 12) / 8) (omega arith) (c .line3 .ensures)
 
 header-at-requires : tie.Need-header-at-requires
 header-at-requires c κs = search needs
@@ -67,7 +74,12 @@ slice-aggregate-line-2 c = search needs
 line-requires-2 : tie.Need-line-requires-2
 line-requires-2 c κs =
     let one = c .before .before .before .before in
-    omega (arith, first-end one, one .line .ensures .long, one .before .before .before .before .before .before .before .before .before .before .pre .2)
+    omega (
+      arith,
+      first-end one,
+      one .line .ensures .long,
+      one .before .before .before .before .before .before .before .before .before .before .pre .2,
+    )
 
 slice-aggregate-line-3 : tie.Need-slice-aggregate-line-3
 slice-aggregate-line-3 c = search needs
@@ -149,7 +161,8 @@ returns c =
     let n = one .before .before .before in
     text-made (a .list .now) (s .0) (s .1) (one .before .before .before .before .before .header-at .ensures .m)
     (part (λ b. n .number-at .result ≡ number 8 b) (a .short .now) 4 (n .number-at .ensures)) (one .line .ensures)
-    (two .line2 .ensures) (three .line3 .ensures) (c .before .before .before .before .before .before .before .pair-lines .ensures) (c .before .before .line4 .ensures) (s .2)
+    (two .line2 .ensures) (three .line3 .ensures) (c .before .before .before .before .before .before .before
+    .pair-lines .ensures) (c .before .before .line4 .ensures) (s .2)
 
 pub print-made-spec : {M : Type 1} → statement M
 print-made-spec =

@@ -36,7 +36,8 @@ returns : tie.Need-returns
 returns c =
     let s = c .before .before .before .before .before .before .before in
     let t = c .before .step-at in
-    next-scanned (s .pre .2) (s .pre .1) (s .args .m) (s .args .slip .now) (s .args .k) (c .before .before .before .if1 .taken)
+    next-scanned (s .pre .2) (s .pre .1) (s .args .m) (s .args .slip .now) (s .args .k)
+    (c .before .before .before .if1 .taken)
     (part (λ b. StepRead b (t .result)) (s .args .slip .now) (4 + 2 * s .args .k) (t .ensures)) (c .scan .ensures)
 
 first-step-requires : tie.Need-first-step-requires
@@ -45,7 +46,8 @@ first-step-requires c κs = search needs
 returns-2 : tie.Need-returns-2
 returns-2 c =
     let s = c .before .before .before .before .before in
-    next-first (s .pre .2) (s .pre .1) (s .args .m) (s .args .slip .now) (s .args .k) (omega (arith, c .before .if1 .left))
+    next-first (s .pre .2) (s .pre .1) (s .args .m) (s .args .slip .now) (s .args .k)
+    (omega (arith, c .before .if1 .left))
     (c .first-step .ensures)
 
 pub next-spec : {M : Type 1} → statement M

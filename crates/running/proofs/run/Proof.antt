@@ -64,7 +64,9 @@ following c =
     nextStep (a .n) (graphOf (l .slots) (l .w1)) (namesFrom (a .m) (a .slip .now) (l .k))
 
 the-step : (g : tie.After-name-of Inv-loop μ-loop) → (s : Step) × (following (sought g) ≡ some s)
-the-step g = told-some (sought g .next .result .step) (g .before .match .keys1) (following (sought g)) (sought g .next .ensures .step)
+the-step g =
+    told-some (sought g .next .result .step) (g .before .match .keys1) (following (sought g))
+    (sought g .next .ensures .step)
 
 the-name : (g : tie.After-name-of Inv-loop μ-loop) → Names (the-step g .0) (g .name-of .result)
 the-name g = g .name-of .ensures (the-step g .0) (sought g .next .ensures .step ∙ ap toTell (the-step g .1))
@@ -100,8 +102,15 @@ add-loop c = let p = began c .pre in omega (arith, p .0 .count, p .1)
 next-requires : tie.Need-next-requires Inv-loop μ-loop
 next-requires c κs =
     let p = began (c .before .before .before) .pre .0 in
-    let l = c .before .before .before .loop .inv in
-    (l .2 .after .holds, p .cells, run-graph (p .graph) (p .cells) (p .small) (l .2), p .count, p .slip-room, l .3, l .4)
+    let l = c .before .before .before .loop .inv in (
+      l .2 .after .holds,
+      p .cells,
+      run-graph (p .graph) (p .cells) (p .small) (l .2),
+      p .count,
+      p .slip-room,
+      l .3,
+      l .4,
+    )
 
 -- ---- no step: refusal 8, or the end
 

@@ -31,8 +31,12 @@ enum-known-n c = search needs
 
 take-steps-requires : tie.Need-take-steps-requires
 take-steps-requires c κs =
-    let e = ap checked (sym (c .before .before .before .n .given .1)) ∙ c .before .before .before .before .before .check-list .ensures in
-    let there = list-there e (c .before .before .before .before .before .before .before .if1 .left) (c .before .before .before .before .before .before .if2 .left) in
+    let e =
+    ap checked (sym (c .before .before .before .n .given .1))
+    ∙ c .before .before .before .before .before .check-list .ensures in
+    let there =
+    list-there e (c .before .before .before .before .before .before .before .if1 .left)
+    (c .before .before .before .before .before .before .if2 .left) in
     let h = there .0 .accepted in
     let few = list-room _ h (there .0 .count) in
     (there .0, there .1, omega arith, omega (arith, few), omega (arith, there .1, accepted _ h .0))
@@ -41,7 +45,8 @@ returns-3 : tie.Need-returns-3
 returns-3 c =
     let s = c .before .before .before .before .before .before .before .before .before .args .list .now in
     let e = ap checked (sym (c .before .r .given .1)) ∙ c .before .before .before .check-list .ensures in
-    enough _ _ _ s _ _ _ (c .before .before .before .before .before .if1 .left) (c .before .before .before .before .if2 .left) _
+    enough _ _ _ s _ _ _ (c .before .before .before .before .before .if1 .left)
+    (c .before .before .before .before .if2 .left) _
     (start-refused (listRows storeList s) [] s _ _ _ (cellsOf s) (countOf s ∷ []) e)
 
 same-length : tie.Need-same-length
@@ -52,10 +57,16 @@ same-length-2 c = search needs
 
 returns-4 : tie.Need-returns-4
 returns-4 c =
-    let s = c .before .before .before .before .before .before .before .before .before .before .before .before .before .before .before .before .args .list .now in
-    let e = ap checked (sym (c .before .before .before .before .before .before .before .before .n .given .1)) ∙ c .before .before .before .before .before .before .before .before .before .before .check-list .ensures in
+    let s =
+    c .before .before .before .before .before .before .before .before .before .before .before .before .before .before
+    .before .before .args .list .now in
+    let e =
+    ap checked (sym (c .before .before .before .before .before .before .before .before .n .given .1))
+    ∙ c .before .before .before .before .before .before .before .before .before .before .check-list .ensures in
     let there = list-accepted _ e in
-    enough _ _ _ s _ _ _ (c .before .before .before .before .before .before .before .before .before .before .before .before .if1 .left) (c .before .before .before .before .before .before .before .before .before .before .before .if2 .left) _
+    enough _ _ _ s _ _ _ (c .before .before .before .before .before .before .before .before .before .before .before
+    .before .if1 .left) (c .before .before .before .before .before .before .before .before .before .before .before .if2
+    .left) _
     (start-passed (listRows storeList s) [] s _ _ _ _ (omega arith) (there .0)
     (reduce-starts s (there .1) _ _ _ (c .before .before .before .before .take-steps .ensures)))
 

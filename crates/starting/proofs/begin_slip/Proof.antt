@@ -31,14 +31,18 @@ enum-known-n c = search needs
 
 start-list-requires : tie.Need-start-list-requires
 start-list-requires c κs =
-    let e = ap checked (sym (c .before .before .before .n .given .1)) ∙ c .before .before .before .before .before .check-list .ensures in
-    list-there e (c .before .before .before .before .before .before .before .if1 .left) (c .before .before .before .before .before .before .if2 .left)
+    let e =
+    ap checked (sym (c .before .before .before .n .given .1))
+    ∙ c .before .before .before .before .before .check-list .ensures in
+    list-there e (c .before .before .before .before .before .before .before .if1 .left)
+    (c .before .before .before .before .before .before .if2 .left)
 
 returns-3 : tie.Need-returns-3
 returns-3 c =
     let s = c .before .before .before .before .before .before .before .before .before .before .args .list .now in
     let e = ap checked (sym (c .before .r .given .1)) ∙ c .before .before .before .check-list .ensures in
-    enough _ _ _ s _ _ _ (c .before .before .before .before .before .if1 .left) (c .before .before .before .before .if2 .left) _
+    enough _ _ _ s _ _ _ (c .before .before .before .before .before .if1 .left)
+    (c .before .before .before .before .if2 .left) _
     (start-refused (listRows storeList s) _ s _ _ _ (cellsOf s) (countOf s ∷ []) e)
 
 same-length : tie.Need-same-length
@@ -49,10 +53,17 @@ same-length-2 c = search needs
 
 returns-4 : tie.Need-returns-4
 returns-4 c =
-    let s = c .before .before .before .before .before .before .before .before .before .before .before .before .before .before .before .before .before .args .list .now in
-    let e = ap checked (sym (c .before .before .before .before .before .before .before .before .n .given .1)) ∙ c .before .before .before .before .before .before .before .before .before .before .check-list .ensures in
-    enough _ _ _ s _ _ _ (c .before .before .before .before .before .before .before .before .before .before .before .before .if1 .left) (c .before .before .before .before .before .before .before .before .before .before .before .if2 .left) _
-    (start-passed (listRows storeList s) _ s _ _ _ _ (omega arith) (list-accepted _ e .0) (c .before .before .before .before .start-list .ensures))
+    let s =
+    c .before .before .before .before .before .before .before .before .before .before .before .before .before .before
+    .before .before .before .args .list .now in
+    let e =
+    ap checked (sym (c .before .before .before .before .before .before .before .before .n .given .1))
+    ∙ c .before .before .before .before .before .before .before .before .before .before .check-list .ensures in
+    enough _ _ _ s _ _ _ (c .before .before .before .before .before .before .before .before .before .before .before
+    .before .if1 .left) (c .before .before .before .before .before .before .before .before .before .before .before .if2
+    .left) _
+    (start-passed (listRows storeList s) _ s _ _ _ _ (omega arith) (list-accepted _ e .0)
+    (c .before .before .before .before .start-list .ensures))
 
 pub begin-slip-spec : {M : Type 1} → statement M
 begin-slip-spec =

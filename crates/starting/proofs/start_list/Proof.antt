@@ -20,7 +20,9 @@ enum-known-k c = search needs
 take-steps-requires : tie.Need-take-steps-requires
 take-steps-requires c κs =
     let p = c .before .before .before .before .before .before .before .before .before .before .pre in
-    let e = ap checked (sym (c .before .before .before .k .given .1)) ∙ c .before .before .before .before .before .check-slip .ensures in
+    let e =
+    ap checked (sym (c .before .before .before .k .given .1))
+    ∙ c .before .before .before .before .before .check-slip .ensures in
     let s = slip-accepted _ _ (p .1) e in
     let r = slip-room _ _ (s .formed) (s .count) in
     (p .0, p .1, r .0, r .1, omega arith)
@@ -39,11 +41,16 @@ same-length-2 c = search needs
 
 returns-2 : tie.Need-returns-2
 returns-2 c =
-    let s = c .before .before .before .before .before .before .before .before .before .before .before .before .before .before .before in
-    let e = ap checked (sym (c .before .before .before .before .before .before .before .before .k .given .1)) ∙ c .before .before .before .before .before .before .before .before .before .before .check-slip .ensures in
+    let s =
+    c .before .before .before .before .before .before .before .before .before .before .before .before .before .before
+    .before in
+    let e =
+    ap checked (sym (c .before .before .before .before .before .before .before .before .k .given .1))
+    ∙ c .before .before .before .before .before .before .before .before .before .before .check-slip .ensures in
     let there = slip-accepted _ _ (s .pre .1) e in
     seven-passed (s .args .list .now) (s .args .slip .now) _ _ _ there _
-    (slip-starts (s .args .list .now) (s .args .slip .now) (there .count) _ _ _ (c .before .before .before .before .take-steps .ensures))
+    (slip-starts (s .args .list .now) (s .args .slip .now) (there .count) _ _ _
+    (c .before .before .before .before .take-steps .ensures))
 
 pub start-list-spec : {M : Type 1} → statement M
 start-list-spec =

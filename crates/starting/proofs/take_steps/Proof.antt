@@ -12,8 +12,12 @@ load-list-requires c κs = search needs
 
 run-requires : tie.Need-run-requires
 run-requires c κs =
-    let p = c .before .before .before .before .before .before .before .before .before .before .before .before .before .pre in
-    (run-there _ (p .0 .accepted) (p .1) (c .before .before .before .before .before .before .load-list .ensures) (p .2) (p .3), p .4)
+    let p =
+    c .before .before .before .before .before .before .before .before .before .before .before .before .before .pre in (
+      run-there _ (p .0 .accepted) (p .1) (c .before .before .before .before .before .before .load-list .ensures) (p .2)
+          (p .3),
+      p .4,
+    )
 
 enum-known-r : tie.Need-enum-known-r
 enum-known-r c = search needs
@@ -29,10 +33,17 @@ same-length-2 c = search needs
 
 returns : tie.Need-returns
 returns c =
-    let p = c .before .before .before .before .before .before .before .before .before .before .before .before .before .before .before .before .before .before .before .before .before .pre in
-    let a = c .before .before .before .before .before .before .before .before .before .before .before .before .before .before .before .before .before .before .before .before .before .args in
-    let d = subst (Runs _ _ _ _ _ _ _ _) (c .before .r .given .1) (c .before .before .before .before .before .before .before .run .ensures) in
-    takes-refused (a .list .now) (a .slip .now) (p .1) (c .before .before .before .before .before .before .before .before .before .before .before .before .before .before .load-list .ensures) (a .k) (a .more) _ _ (d .0) (d .1)
+    let p =
+    c .before .before .before .before .before .before .before .before .before .before .before .before .before .before
+    .before .before .before .before .before .before .before .pre in
+    let a =
+    c .before .before .before .before .before .before .before .before .before .before .before .before .before .before
+    .before .before .before .before .before .before .before .args in
+    let d =
+    subst (Runs _ _ _ _ _ _ _ _) (c .before .r .given .1)
+    (c .before .before .before .before .before .before .before .run .ensures) in
+    takes-refused (a .list .now) (a .slip .now) (p .1) (c .before .before .before .before .before .before .before
+    .before .before .before .before .before .before .before .load-list .ensures) (a .k) (a .more) _ _ (d .0) (d .1)
 
 same-length-3 : tie.Need-same-length-3
 same-length-3 c = search needs
@@ -42,10 +53,17 @@ same-length-4 c = search needs
 
 returns-2 : tie.Need-returns-2
 returns-2 c =
-    let p = c .before .before .before .before .before .before .before .before .before .before .before .before .before .before .before .before .before .before .before .before .before .pre in
-    let a = c .before .before .before .before .before .before .before .before .before .before .before .before .before .before .before .before .before .before .before .before .before .args in
-    let d = subst (Runs _ _ _ _ _ _ _ _) (c .before .slots .given .1) (c .before .before .before .before .before .before .before .run .ensures) in
-    takes-done (a .list .now) (a .slip .now) (p .1) (c .before .before .before .before .before .before .before .before .before .before .before .before .before .before .load-list .ensures) (a .k) (a .more) (p .0 .accepted) d
+    let p =
+    c .before .before .before .before .before .before .before .before .before .before .before .before .before .before
+    .before .before .before .before .before .before .before .pre in
+    let a =
+    c .before .before .before .before .before .before .before .before .before .before .before .before .before .before
+    .before .before .before .before .before .before .before .args in
+    let d =
+    subst (Runs _ _ _ _ _ _ _ _) (c .before .slots .given .1)
+    (c .before .before .before .before .before .before .before .run .ensures) in
+    takes-done (a .list .now) (a .slip .now) (p .1) (c .before .before .before .before .before .before .before .before
+    .before .before .before .before .before .before .load-list .ensures) (a .k) (a .more) (p .0 .accepted) d
 
 pub take-steps-spec : {M : Type 1} → statement M
 take-steps-spec =

@@ -1,7 +1,7 @@
 -- `entry_of`, walked by hand: the view that `view_of` answers is held in a local and passed to `serve`, so that
--- its number is the one that is shown. In a local the code erases the lifetime of the view's type, so the value is shown to
--- have the type at `erased`: what a view owns does not say the lifetime's name. Of `view_of` and of `serve` only their
--- contracts are known. Assumes nothing.
+-- its number is the one that is shown. In a local the code erases the lifetime of the view's type, so the value is
+-- shown to have the type at `erased`: what a view owns does not say the lifetime's name. Of `view_of` and of `serve`
+-- only their contracts are known. Assumes nothing.
 use mathlib.Core.Path.{_≡_, refl, sym, ap, _∙_}
 use Prim.Native.Nat.{ℕ, _<_, _^_}
 use mathlib.Core.List.{List, [], _∷_}

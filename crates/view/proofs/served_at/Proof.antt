@@ -1,5 +1,5 @@
--- `served_at` answers nothing at a place past the count, else the entry that it reads there: a place below the number shown
--- has its bytes.
+-- `served_at` answers nothing at a place past the count, else the entry that it reads there: a place below the number
+-- shown has its bytes.
 use Prim.Native.Nat.{_+_, _*_}
 use native.Mathlib.Omega.{arith}
 use Rattle.cellfile.specs.Reads.{EntryRead}

@@ -23,7 +23,8 @@ loop-holds c = (omega arith, omega arith, refl, refl)
 
 -- there is room for one more word
 room : (g : tie.In-loop Inv-loop μ-loop)
-    → g .before .loop .at + g .before .before .before .before .args .size ≤ g .before .before .before .before .args .size * g .before .before .before .before .args .count
+    → g .before .loop .at + g .before .before .before .before .args .size
+    ≤ g .before .before .before .before .args .size * g .before .before .before .before .args .count
 room g = words-room _ (g .before .loop .i) _ _ (g .before .loop .inv .1) (g .loop-test .taken)
 
 mul-put-number : tie.Need-mul-put-number Inv-loop μ-loop

@@ -23,7 +23,8 @@ lift-tail-requires : tie.Need-lift-tail-requires
 lift-tail-requires c κs =
     let at-start = c .before .before .before .before .before .before .before .before .before .before in
     let a = at-start .before .before .before .before .before .before .before .before .before .args in
-    let s = subst (Starts _ _ _ _ _) (c .before .before .before .before .n .given .1) (at-start .start-slip .ensures .0) in
+    let s =
+    subst (Starts _ _ _ _ _) (c .before .before .before .before .n .given .1) (at-start .start-slip .ensures .0) in
     start-there (a .list .now) (a .slip .now) (started _ _ _ _ _ _ _ _ _ _ s .1)
 
 same-length : tie.Need-same-length

@@ -21,8 +21,13 @@ enum-known-n c = search needs
 
 write-both-requires : tie.Need-write-both-requires
 write-both-requires c κs =
-    let a = c .before .before .before .before .before .before .before .before .before .before .before .before .before .before .before .before .before .before .before .args in
-    let s = subst (Starts _ _ _ _ _) (c .before .before .before .before .before .n .given .1) (c .before .before .before .before .before .before .before .before .before .before .before .start-reduce .ensures .0) in
+    let a =
+    c .before .before .before .before .before .before .before .before .before .before .before .before .before .before
+    .before .before .before .before .before .args in
+    let s =
+    subst (Starts _ _ _ _ _) (c .before .before .before .before .before .n .given .1)
+    (c .before .before .before .before .before .before .before .before .before .before .before .start-reduce .ensures
+    .0) in
     reduce-left (a .list .now) (started _ _ _ _ _ _ _ _ _ _ s .1)
 
 same-length : tie.Need-same-length
@@ -33,8 +38,12 @@ same-length-2 c = search needs
 
 returns : tie.Need-returns
 returns c =
-    let a = c .before .before .before .before .before .before .before .before .before .before .before .before .before .before .before .args in
-    let s = subst (Starts _ _ _ _ _) (c .before .k .given .1) (c .before .before .before .before .before .before .before .start-reduce .ensures .0) in
+    let a =
+    c .before .before .before .before .before .before .before .before .before .before .before .before .before .before
+    .before .args in
+    let s =
+    subst (Starts _ _ _ _ _) (c .before .k .given .1) (c .before .before .before .before .before .before .before
+    .start-reduce .ensures .0) in
     refused (listStart (a .list .now) (lent (a .work-a .now) (a .work-b .now))) [] 0 []
     (not-started _ _ _ _ _ _ s) (refl, (refl, tt))
 
@@ -52,8 +61,13 @@ same-length-6 c = search needs
 
 returns-2 : tie.Need-returns-2
 returns-2 c =
-    let a = c .before .before .before .before .before .before .before .before .before .before .before .before .before .before .before .before .before .before .before .before .before .before .before .before .before .before .args in
-    let s = subst (Starts _ _ _ _ _) (c .before .before .before .before .before .before .before .before .before .before .before .before .n .given .1) (c .before .before .before .before .before .before .before .before .before .before .before .before .before .before .before .before .before .before .start-reduce .ensures .0) in
+    let a =
+    c .before .before .before .before .before .before .before .before .before .before .before .before .before .before
+    .before .before .before .before .before .before .before .before .before .before .before .before .args in
+    let s =
+    subst (Starts _ _ _ _ _) (c .before .before .before .before .before .before .before .before .before .before .before
+    .before .n .given .1) (c .before .before .before .before .before .before .before .before .before .before .before
+    .before .before .before .before .before .before .before .start-reduce .ensures .0) in
     let d = started _ _ _ _ _ _ _ _ _ _ s in
     reduce-passed (a .list .now) (d .1) (lent (a .work-a .now) (a .work-b .now)) (d .0)
     (a .slip .now) (a .short .now) (c .before .before .before .before .before .before .write-both .ensures)

@@ -21,8 +21,12 @@ enum-known-n c = search needs
 
 write-left-requires : tie.Need-write-left-requires
 write-left-requires c κs =
-    let a = c .before .before .before .before .before .before .before .before .before .before .before .before .before .before .before .before .before .args in
-    let s = subst (Starts _ _ _ _ _) (c .before .before .before .n .given .1) (c .before .before .before .before .before .before .before .before .before .start-slip .ensures .0) in
+    let a =
+    c .before .before .before .before .before .before .before .before .before .before .before .before .before .before
+    .before .before .before .args in
+    let s =
+    subst (Starts _ _ _ _ _) (c .before .before .before .n .given .1)
+    (c .before .before .before .before .before .before .before .before .before .start-slip .ensures .0) in
     replay-left (a .list .now) (a .slip .now) (started _ _ _ _ _ _ _ _ _ _ s .1)
 
 same-length : tie.Need-same-length
@@ -33,8 +37,12 @@ same-length-2 c = search needs
 
 returns : tie.Need-returns
 returns c =
-    let a = c .before .before .before .before .before .before .before .before .before .before .before .before .before .before .before .args in
-    let s = subst (Starts _ _ _ _ _) (c .before .k .given .1) (c .before .before .before .before .before .before .before .start-slip .ensures .0) in
+    let a =
+    c .before .before .before .before .before .before .before .before .before .before .before .before .before .before
+    .before .args in
+    let s =
+    subst (Starts _ _ _ _ _) (c .before .k .given .1) (c .before .before .before .before .before .before .before
+    .start-slip .ensures .0) in
     refused (slipStart (a .list .now) (a .slip .now) (lent (a .work-a .now) (a .work-b .now))) [] 0 []
     (not-started _ _ _ _ _ _ s) (refl, tt)
 
@@ -49,8 +57,13 @@ same-length-5 c = search needs
 
 returns-2 : tie.Need-returns-2
 returns-2 c =
-    let a = c .before .before .before .before .before .before .before .before .before .before .before .before .before .before .before .before .before .before .before .before .before .before .args in
-    let s = subst (Starts _ _ _ _ _) (c .before .before .before .before .before .before .before .before .n .given .1) (c .before .before .before .before .before .before .before .before .before .before .before .before .before .before .start-slip .ensures .0) in
+    let a =
+    c .before .before .before .before .before .before .before .before .before .before .before .before .before .before
+    .before .before .before .before .before .before .before .before .args in
+    let s =
+    subst (Starts _ _ _ _ _) (c .before .before .before .before .before .before .before .before .n .given .1)
+    (c .before .before .before .before .before .before .before .before .before .before .before .before .before .before
+    .start-slip .ensures .0) in
     let d = started _ _ _ _ _ _ _ _ _ _ s in
     replay-passed (a .list .now) (a .slip .now) (d .1) (lent (a .work-a .now) (a .work-b .now)) (d .0)
     (a .short .now) (c .before .before .before .before .write-left .ensures)

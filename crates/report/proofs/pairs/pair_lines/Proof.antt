@@ -1,5 +1,5 @@
--- `pair_lines` passes the list's entries. Invariant: the lines of the entries found before places i and j are written, and
--- the lines of the whole merge are these and those from places i and j on (`Reached`).
+-- `pair_lines` passes the list's entries. Invariant: the lines of the entries found before places i and j are written,
+-- and the lines of the whole merge are these and those from places i and j on (`Reached`).
 use Prim.Native.Nat.{ℕ, _+_, _*_, _-_, _≤_}
 use mathlib.Core.Path.{_≡_, refl, _∙_}
 use mathlib.Core.List.{List}
@@ -51,7 +51,8 @@ same-length c = c .before .before .loop .inv .2
 returns : tie.Need-returns Inv-loop μ-loop
 returns c =
     let a = c .before .before .before .before .before .before .args in
-    reach-pairs (a .list .now) (a .pairing .now) (a .m) (a .k) (a .text .now) (a .at) (c .before .before .loop .inv .3) _ refl refl
+    reach-pairs (a .list .now) (a .pairing .now) (a .m) (a .k) (a .text .now) (a .at) (c .before .before .loop .inv .3)
+    _ refl refl
     (c .if1 .taken)
 
 mul-e-at : tie.Need-mul-e-at Inv-loop μ-loop
@@ -109,13 +110,27 @@ pair-line-requires : tie.Need-pair-line-requires Inv-loop μ-loop
 pair-line-requires c κs =
     let g = c .before .before .before .before .before .before in
     let i = at-loop g .loop .inv in
-    omega (arith, i .2, i .3 .room, g .before .before .before .before .if1 .left, at-loop g .before .before .before .before .pre)
+    omega (
+      arith,
+      i .2,
+      i .3 .room,
+      g .before .before .before .before .if1 .left,
+      at-loop
+          g .before .before .before .before .pre,
+    )
 
 add-total : tie.Need-add-total Inv-loop μ-loop
 add-total c =
     let g = c .before .before .before .before .before .before .before .before .before .before in
     let i = at-loop g .loop .inv in
-    omega (arith, i .1, i .3 .small, g .before .before .entry-at .ensures .points-fit, at-loop g .before .before .before .before .pre)
+    omega (
+      arith,
+      i .1,
+      i .3 .small,
+      g .before .before .entry-at .ensures .points-fit,
+      at-loop
+          g .before .before .before .before .pre,
+    )
 
 add-j : tie.Need-add-j Inv-loop μ-loop
 add-j c = search needs
@@ -132,8 +147,10 @@ loop-again c =
       omega arith,
       omega arith,
       l .pair-line .ensures .long ∙ i .2,
-      reach-same (list g) (other g) (a .m) (a .k) (a .text .now) (a .at) (i .3) (g .before .before .before .before .before .loop-test .taken)
-          (g .before .before .before .before .if1 .left) _ (entry g) _ (pair g) (l .before .before .if2 .taken) (l .pair-line .ensures),
+      reach-same (list g) (other g) (a .m) (a .k) (a .text .now) (a .at) (i .3)
+          (g .before .before .before .before .before .loop-test .taken)
+          (g .before .before .before .before .if1 .left) _ (entry g) _ (pair g) (l .before .before .if2 .taken)
+          (l .pair-line .ensures),
     )
 
 loop-less-2 : tie.Need-loop-less-2 Inv-loop μ-loop
@@ -147,7 +164,8 @@ loop-again-2 c =
       omega arith,
       i .1,
       i .2,
-      reach-other (list g) (other g) (a .m) (a .k) (a .text .now) (a .at) (i .3) (g .before .before .before .before .before .loop-test .taken)
+      reach-other (list g) (other g) (a .m) (a .k) (a .text .now) (a .at) (i .3)
+          (g .before .before .before .before .before .loop-test .taken)
           (g .before .before .before .before .if1 .left) _ (entry g) _ (pair g) (c .if2 .left),
     )
 
@@ -157,7 +175,8 @@ same-length-2 c = c .before .loop .inv .2
 returns-2 : tie.Need-returns-2 Inv-loop μ-loop
 returns-2 c =
     let a = c .before .before .before .before .before .args in
-    reach-entries (a .list .now) (a .pairing .now) (a .m) (a .k) (a .text .now) (a .at) (c .before .loop .inv .3) _ refl refl
+    reach-entries (a .list .now) (a .pairing .now) (a .m) (a .k) (a .text .now) (a .at) (c .before .loop .inv .3) _
+    refl refl
     (c .loop-test .left)
 
 pub pair-lines-spec : {M : Type 1} → statement M

@@ -43,7 +43,8 @@ returns c =
     let start = at-decimal .before .before .before in
     let d = at-decimal .decimal .ensures in
     append-both (at-put .put .ensures)
-    (append-is (d .1 .1 ∙ decimal-is (start .args .v) (at-decimal .decimal .result) (omega (arith, start .fits .v)) (d .1 .0))
+    (append-is (d .1 .1 ∙ decimal-is (start .args .v) (at-decimal .decimal .result) (omega (arith, start .fits .v))
+    (d .1 .0))
     (at-put-2 .put2 .ensures))
 
 pub number-spec : {M : Type 1} → statement M

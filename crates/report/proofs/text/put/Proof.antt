@@ -1,4 +1,5 @@
--- `put` copies one byte after the other. Invariant: the text is the one at the start with the first i bytes put at `at`.
+-- `put` copies one byte after the other. Invariant: the text is the one at the start with the first i bytes put at
+-- `at`.
 use Prim.Native.Nat.{_-_, _≤_}
 use mathlib.Core.Path.{_≡_, refl, _∙_}
 use native.Mathlib.Omega.{arith}

@@ -30,13 +30,16 @@ abbrev other : tie.After-pair-at Inv-loop μ-loop → List ℕ
 other g = g .before .before .before .before .before .before .before .before .before .args .pairing .now
 
 -- the entry and the pair read are those at places i and j
-entry : (g : tie.After-pair-at Inv-loop μ-loop) → EntryRead (drop (4 + 5 * g .before .before .before .before .before .before .loop .i) (list g)) (g .before .before .entry-at .result)
+entry : (g : tie.After-pair-at Inv-loop μ-loop) → EntryRead
+    (drop (4 + 5 * g .before .before .before .before .before .before .loop .i) (list g))
+    (g .before .before .entry-at .result)
 entry g =
     let at-loop = g .before .before .before .before .before .before in
     part (λ s. EntryRead s (g .before .before .entry-at .result)) (list g) (4 + 5 * at-loop .loop .i)
     (g .before .before .entry-at .ensures)
 
-pair : (g : tie.After-pair-at Inv-loop μ-loop) → PairRead (drop (4 + 3 * g .before .before .before .before .before .before .loop .j) (other g)) (g .pair-at .result)
+pair : (g : tie.After-pair-at Inv-loop μ-loop) → PairRead
+    (drop (4 + 3 * g .before .before .before .before .before .before .loop .j) (other g)) (g .pair-at .result)
 pair g =
     let at-loop = g .before .before .before .before .before .before in
     part (λ s. PairRead s (g .pair-at .result)) (other g) (4 + 3 * at-loop .loop .j) (g .pair-at .ensures)
