@@ -1,6 +1,7 @@
 -- Records met one by one from the start of a file, as the loops over entries meet them.
--- The records from place i on are the one at i and those that follow; so a test of some record from i on.
-use Prim.Native.Nat.{ℕ, suc, _+_, _*_, _-_, _<_, _≤_}
+-- The records from place i on are the one at i and those that follow; so a test of some record from i on. At the end:
+-- the cells of pairs have 10 bits (`cells-fit`).
+use Prim.Native.Nat.{ℕ, suc, _+_, _*_, _-_, _<_, _≤_, zero}
 use mathlib.Core.Path.{_≡_, subst}
 use mathlib.Core.Bool.{Bool, true, false}
 use mathlib.Core.List.{List, [], _∷_, map}
@@ -9,8 +10,10 @@ use native.Mathlib.Nat.{mul-suc, sub-zero}
 use native.Mathlib.Numerals.{add-one}
 use lib.ListN.{length, take, drop, length-drop}
 use lib.Seq.{drop-drop, take-all}
-use Rattle.matching.specs.Lists.{any}
-use Rattle.cellfile.specs.Fields.{size, readRecord, readRecords}
+use Rattle.matching.specs.Lists.{any, All}
+use Rattle.cellfile.specs.Fields.{size, readRecord, readRecords, fields}
+use Rattle.matching.specs.Pairing.{cells}
+use Rattle.cellfile.specs.Words.{pairs}
 
 -- a part to the end is what is left
 rest : (s : List ℕ) (at : ℕ) → take (length s - at) (drop at s) ≡ drop at s
@@ -50,3 +53,10 @@ module _ (ws s : List ℕ) (h m i : ℕ) (l : i < m) where
     pub any-next : (t : A → Bool) → t (f (readRecord ws (drop (h + size ws * i) s))) ≡ false
         → any t (map f (from ws s h m i)) ≡ any t (map f (from ws s h m (i + 1)))
     any-next t p = rw (from-next, p)
+
+-- the cells of pairs
+pub cells-fit : (k m : ℕ) (s : List ℕ) → 1024 ≤ k → All (λ (c : ℕ). c < k) (cells (pairs m s))
+unfolding readRecords fields
+cells-fit k zero s h = tt
+cells-fit k (suc m) s h =
+    (omega arith, (omega arith, cells-fit k m (drop 3 s) h))

@@ -5,5 +5,6 @@ pub mod Forms
 pub mod Parts
 pub mod Layers
 pub mod Accepted
+pub mod Merge
 pub mod Written
 pub mod Answering

@@ -3,3 +3,4 @@ pub mod Refusals
 pub mod Answering
 pub mod Checking
 pub mod Loops
+pub mod Merging

@@ -23,8 +23,7 @@ use Rattle.cellfile.specs.Files.{pairing, asPair}
 use Rattle.cellfile.specs.Reads.{PairRead}
 use Rattle.cellfile.specs.Words.{pairs}
 use Rattle.cellfile.specs.declared.decode.PairEntry.{PairEntry}
-use Rattle.cellfile.proofs.Walk.{from, from-start, from-end, from-next}
-use Rattle.weighing.proofs.Repeated.{cells-fit}
+use Rattle.cellfile.proofs.Walk.{from, from-start, from-end, from-next, cells-fit}
 use Rattle.partners.specs.Table.{TrailKept}
 use Rattle.partners.specs.Entering.{Empty, Filled}
 use Rattle.partners.proofs.Tabled.{mateAt}

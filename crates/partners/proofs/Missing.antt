@@ -1,10 +1,11 @@
--- Pairs that a short list does not have. In order: the keys of a short list ascend; `absent` is the merge that refuses
--- (`absent-merged`), so it tells whether some pair is not in the graph (`missing-is`); the merge from places i and j
+-- Pairs that a short list does not have. In order: the keys of a short list ascend; `absent` is the merge that lacks a pair
+-- (`absent-merge`), so it tells whether some pair is not in the graph (`missing-is`); the merge from places i and j
 -- on, as the loop over both meets them. Assumes nothing.
 use mathlib.Core.Path.{_≡_, refl, ap, ap₂, _∙_, fun-ext}
 use mathlib.Core.Logic.{inl, inr}
 use mathlib.Core.Bool.{Bool, true, false, not, cond}
 use mathlib.Core.List.{List, [], _∷_, map}
+use mathlib.Core.Option.{Option, some, none}
 use Prim.Native.Nat.{ℕ, suc, _+_, _*_, _≤_, _<_}
 use native.Mathlib.Omega.{arith}
 use native.Mathlib.Numerals.{add-one}
@@ -22,13 +23,11 @@ use Rattle.cellfile.specs.Files.{pairing, asPair, pairsOf, key, entryKey, pairK
 use Rattle.checks.specs.Refusals.{ascendingFrom}
 use Rattle.cellfile.specs.Reads.{PairRead}
 use Rattle.cellfile.specs.Words.{pairs, shortWord}
-use Rattle.weighing.specs.Merging.{merged}
-use Rattle.weighing.specs.declared.Weighed.{Weighed}
-use Rattle.weighing.specs.declared.Weighed.the-variants as weighed
+use Rattle.checks.specs.Merging.{merge}
 use Rattle.cellfile.specs.declared.decode.PairEntry.{PairEntry}
 use Rattle.checks.proofs.Rows.{bad-pairing-none}
 use Rattle.checks.proofs.Ascending.{Ordered, OrderedEntries}
-use Rattle.weighing.proofs.Merge.{merged-is}
+use Rattle.checks.proofs.Merge.{merge-is}
 use Rattle.cellfile.proofs.Walk.{from, from-start, from-end, from-next}
 use Rattle.partners.specs.Table.{FileThere}
 use Rattle.partners.specs.Entering.{wordKey, absent}
@@ -54,24 +53,24 @@ word-keys (e ∷ es) p = ap₂ (λ (x : ℕ) (xs : List ℕ). x ∷ xs) (omega (
 
 -- ---- what is absent is not in the graph
 
-abbrev refused : Weighed → Bool
-refused (weighed.Refused k) = true
-refused (weighed.Points n) = false
+abbrev lacks : Option ℕ → Bool
+lacks none = true
+lacks (some n) = false
 
-absent-merged : (es : List Entry) (ps : List Pair) (found : ℕ)
-    → absent (map entryKey es) (map pairKey ps) ≡ refused (merged es ps found)
-absent-merged es [] found = refl
-absent-merged [] (p ∷ ps) found = refl
-absent-merged (e ∷ es) (p ∷ ps) found =
-    go (ltb (pairKey p) (entryKey e)) (eqb (entryKey e) (pairKey p)) (absent-merged es ps (found + e .2))
-    (absent-merged es (p ∷ ps) found)
+absent-merge : (es : List Entry) (ps : List Pair) (found : ℕ)
+    → absent (map entryKey es) (map pairKey ps) ≡ lacks (merge es ps found)
+absent-merge es [] found = refl
+absent-merge [] (p ∷ ps) found = refl
+absent-merge (e ∷ es) (p ∷ ps) found =
+    go (ltb (pairKey p) (entryKey e)) (eqb (entryKey e) (pairKey p)) (absent-merge es ps (found + e .2))
+    (absent-merge es (p ∷ ps) found)
   where
     later : List Pair → Bool
     later qs = absent (map entryKey es) (map pairKey qs)
 
-    go : (s t : Bool) → later ps ≡ refused (merged es ps (found + e .2))
-        → later (p ∷ ps) ≡ refused (merged es (p ∷ ps) found) → cond s true (cond t (later ps) (later (p ∷ ps)))
-        ≡ refused (cond s (weighed.Refused 10) (cond t (merged es ps (found + e .2)) (merged es (p ∷ ps) found)))
+    go : (s t : Bool) → later ps ≡ lacks (merge es ps (found + e .2))
+        → later (p ∷ ps) ≡ lacks (merge es (p ∷ ps) found) → cond s true (cond t (later ps) (later (p ∷ ps)))
+        ≡ lacks (cond s none (cond t (merge es ps (found + e .2)) (merge es (p ∷ ps) found)))
     go true t i j = refl
     go false true i j = i
     go false false i j = j
@@ -84,9 +83,9 @@ one-above : (t : Bool) → ltb 0 (ι t) ≡ t
 one-above true = refl
 one-above false = refl
 
-cond-refused : (t : Bool) (n : ℕ) → refused (cond t (weighed.Points n) (weighed.Refused 10)) ≡ not t
-cond-refused true n = refl
-cond-refused false n = refl
+cond-lacks : (t : Bool) (n : ℕ) → lacks (cond t (some n) none) ≡ not t
+cond-lacks true n = refl
+cond-lacks false n = refl
 
 module _ {n : ℕ} {w : Points} {file : List ℕ} {k r : ℕ} {w1 w2 : List ℕ} (h : FileThere n w file k r w1 w2) where
   abbrev short : List Entry
@@ -114,10 +113,10 @@ module _ {n : ℕ} {w : Points} {file : List ℕ} {k r : ℕ} {w1 w2 : List ℕ}
   missing-is =
       let p = bad-pairing-none n file (h .formed) in
       ap₂ absent words-short (ap (λ (i : ℕ). map pairKey (pairs i (drop 4 file))) (h .count))
-      ∙ absent-merged short (pairsOf file) 0
-      ∙ ap refused (merged-is short (pairsOf file) 0 0 0 ordered short-ascending
+      ∙ absent-merge short (pairsOf file) 0
+      ∙ ap lacks (merge-is short (pairsOf file) 0 0 0 ordered short-ascending
       (all-map (λ (x : Pair) q. (q .0, omega (arith, q .1, h .cells))) (pairsOf file) (p .1)) (p .2))
-      ∙ cond-refused (allThere (joined short) (pairsOf file)) _
+      ∙ cond-lacks (allThere (joined short) (pairsOf file)) _
       ∙ ap not joined-there
 
 -- ---- the merge from places i and j on

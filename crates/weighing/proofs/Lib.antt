@@ -1,7 +1,6 @@
 -- The laws of weighing.
 pub mod Marks
 pub mod Repeated
-pub mod Merge
 pub mod Matched
 pub mod Weights
 pub mod Worked

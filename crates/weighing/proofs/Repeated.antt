@@ -1,28 +1,19 @@
 -- The cells of a pairing from place i on, marked in a table, as the loop over the pairs meets them.
-use Prim.Native.Nat.{ℕ, zero, suc, _+_, _*_, _<_, _≤_}
+use Prim.Native.Nat.{ℕ, _+_, _*_, _<_, _≤_}
 use mathlib.Core.Path.{_≡_, sym, _∙_}
 use mathlib.Core.Bool.{Bool, true, false, not}
 use mathlib.Core.List.{List, map}
-use native.Mathlib.Omega.{arith}
 use borrow.Author.Tests.{eq-eqb, ne-eqb}
 use lib.ListN.{getD, set, drop}
-use Rattle.matching.specs.Lists.{distinct, All}
+use Rattle.matching.specs.Lists.{distinct}
 use Rattle.matching.specs.Pairing.{cells}
-use Rattle.cellfile.specs.Fields.{fields, readRecords}
 use Rattle.cellfile.specs.Files.{pairing, asPair}
 use Rattle.buffers.specs.Buffers.{zeros}
 use Rattle.cellfile.specs.Reads.{PairRead}
 use Rattle.cellfile.specs.Words.{pairs}
 use Rattle.cellfile.specs.declared.decode.PairEntry.{PairEntry}
-use Rattle.cellfile.proofs.Walk.{from, from-start, from-end, from-next}
+use Rattle.cellfile.proofs.Walk.{from, from-start, from-end, from-next, cells-fit}
 use Rattle.weighing.proofs.Marks.{marksTwice, marks-twice}
-
--- the cells have 10 bits
-pub cells-fit : (k m : ℕ) (s : List ℕ) → 1024 ≤ k → All (λ (c : ℕ). c < k) (cells (pairs m s))
-unfolding readRecords fields
-cells-fit k zero s h = tt
-cells-fit k (suc m) s h =
-    (omega arith, (omega arith, cells-fit k m (drop 3 s) h))
 
 module _ (s : List ℕ) (m : ℕ) where
   abbrev pub twiceFrom : List ℕ → ℕ → Bool

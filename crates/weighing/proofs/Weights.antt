@@ -18,21 +18,26 @@ use Rattle.checks.specs.Refusals.{Row, first, fewWords, listRows, badPairing, n
 use Rattle.cellfile.specs.Answers.{Answer, answer}
 use Rattle.weighing.specs.Weigh.{weighed, formRow, pairRow, weight, weighing}
 use Rattle.cellfile.specs.Words.{entries, pairs}
-use Rattle.weighing.specs.Merging.{merged}
+use Rattle.weighing.specs.Merging.{merged, asWeighed}
 use Rattle.weighing.specs.declared.Weighed.{Weighed}
 use Rattle.weighing.specs.declared.Weighed.the-variants.{Refused, Points}
 use Rattle.matching.proofs.Alls.{all-map}
 use Rattle.matching.proofs.Pairing.{is-pairing}
 use Rattle.checks.proofs.Rows.{list-none, stray-entry-none, unordered-none, first-none, bad-pairing-none}
 use Rattle.checks.proofs.Layers.{answer-accepted, layer-refused, layer-passed, call-passes, call-sound}
-use Rattle.weighing.proofs.Merge.{merged-is}
+use Rattle.checks.proofs.Merge.{merge-is}
 use Rattle.checks.proofs.Accepted.{list-fits}
+use mathlib.Core.Option.{some, none}
 
 -- the rows of the pairing
 abbrev rows : List ℕ → List ℕ → List Row
 rows list pairing = formRow list pairing ∷ pairRow list pairing ∷ []
 
 -- ---- refusal 10 and the points
+
+as-found : (t : Bool) (n : ℕ) → asWeighed (cond t (some n) none) ≡ cond t (Points n) (Refused 10)
+as-found true n = refl
+as-found false n = refl
 
 module _ (es : List Entry) (ps : List Pair) where
   -- the row of refusal 10 alone
@@ -76,11 +81,12 @@ module _ (list pairing : List ℕ) {m k : ℕ} (accepted : first (listRows store
       let few = list-fits list accepted in
       let p = bad-pairing-none (cellsOf list) pairing formed in
       ap₂ (λ (i j : ℕ). merged (entries i (drop 4 list)) (pairs j (drop 4 pairing)) 0) em ek
-      ∙ merged-is es ps 0 0 0
+      ∙ ap asWeighed (merge-is es ps 0 0 0
       (all-map (λ (x : Entry) h. (h .0, omega arith)) es (stray-entry-none storeList list (rows .1 .1 .1 .0)))
       (unordered-none storeList list (rows .1 .1 .1 .1 .0))
       (all-map (λ (x : Pair) h. (h .0, omega arith)) ps (p .1))
-      (p .2)
+      (p .2))
+      ∙ as-found (all (λ (p : Pair). ltb 0 (joined es (p .0) (p .1))) ps) (0 + points es ps)
 
   pub pairs-found : {r : Weighed} → t ≡ false
       → r ≡ merged (entries m (drop 4 list)) (pairs k (drop 4 pairing)) 0

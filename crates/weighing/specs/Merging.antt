@@ -1,19 +1,17 @@
--- What the contract of the merge cites. Nobody has to believe this: a law ties it to the definition of weighing.
-use Prim.Native.Nat.{ℕ, _+_}
-use mathlib.Core.Bool.{cond}
-use mathlib.Core.List.{List, [], _∷_}
-use lib.Dec.{ltb, eqb}
+-- What the contract of `matched` cites: the merge of entries and pairs as weighing answers it. Nobody has to believe this:
+-- the law of the merge (`merge-is` of crate checks) ties it to the definition of weighing.
+use mathlib.Core.List.{List}
+use mathlib.Core.Option.{Option, some, none}
+use Prim.Native.Nat.{ℕ}
 use Rattle.matching.specs.Pairs.{Pair}
 use Rattle.matching.specs.Listed.{Entry}
-use Rattle.cellfile.specs.Files.{key}
+use Rattle.checks.specs.Merging.{merge}
 use Rattle.weighing.specs.declared.Weighed.{Weighed}
 use Rattle.weighing.specs.declared.Weighed.the-variants.{Refused, Points}
 
--- The points of the pairs found in the entries, both ascending, added to what was found before; 10 where one is
--- missing. Law: proofs/Merge, `merged-is`.
+abbrev pub asWeighed : Option ℕ → Weighed
+asWeighed none = Refused 10
+asWeighed (some n) = Points n
+
 abbrev pub merged : List Entry → List Pair → ℕ → Weighed
-merged es [] found = Points found
-merged [] (p ∷ ps) found = Refused 10
-merged (e ∷ es) (p ∷ ps) found =
-    cond (ltb (key (p .0) (p .1)) (key (e .0) (e .1))) (Refused 10)
-    (cond (eqb (key (e .0) (e .1)) (key (p .0) (p .1))) (merged es ps (found + e .2)) (merged es (p ∷ ps) found))
+merged es ps had = asWeighed (merge es ps had)

@@ -1,5 +1,5 @@
--- The merge of entries and pairs, both ascending, finds the pairs and their points (`merged-is`). In order: what an
--- entry says of pairs above it (`past`) and of the first pair (`met`); the merge. Assumes nothing.
+-- The merge of entries and pairs, both ascending, finds the pairs and their points (`merge-is`). In order: what an entry
+-- says of pairs above it (`past`) and of the first pair (`met`); the merge. Assumes nothing.
 use mathlib.Core.Path.{_≡_, refl, ap₂, _∙_}
 use mathlib.Core.Logic.{_≢_}
 use mathlib.Core.Bool.{Bool, true, cond}
@@ -15,19 +15,18 @@ use Rattle.matching.specs.Listed.{Entry, joined, listed}
 use Rattle.matching.proofs.Tests.{Test, pass, fail, eqT, ltT, passes, fails}
 use Rattle.matching.proofs.Listed.{joined-same, listed-same, joined-apart, listed-apart}
 use Rattle.cellfile.specs.Files.{key, entryKey, pairKey}
 use Rattle.checks.specs.Refusals.{ascendingFrom}
-use Rattle.weighing.specs.Merging.{merged}
-use Rattle.weighing.specs.declared.Weighed.{Weighed}
-use Rattle.weighing.specs.declared.Weighed.the-variants.{Refused, Points}
 use Rattle.checks.proofs.Ascending.{Ordered, OrderedEntries, OrderedPairs, ascending-cons, entries-above, keyT}
 use Rattle.checks.proofs.Ascending.{not-joined, pairs-above}
+use mathlib.Core.Option.{Option, some, none}
+use Rattle.checks.specs.Merging.{merge}
 
--- Whether the entries join every pair, and what weighing then answers.
+-- Whether the entries join every pair, and what the merge then finds.
 abbrev join : List Entry → List Pair → Bool
 join es ps = all (λ (p : Pair). ltb 0 (joined es (p .0) (p .1))) ps
 
-abbrev outcome : Bool → ℕ → Weighed
-outcome t n = cond t (Points n) (Refused 10)
+abbrev outcome : Bool → ℕ → Option ℕ
+outcome t n = cond t (some n) none
 
 -- An entry whose key is below the pairs' says nothing of them.
 past : (e : Entry) (es : List Entry) (ps : List Pair) → Ordered (e .0) (e .1) → OrderedPairs ps
@@ -50,20 +49,20 @@ met e es p ps o q k above later =
     let i = past e es ps (o .0) (q .1) later in
     (rw (j, i .0), omega (arith, listed-same e es (p .0) (p .1) y, not-joined es p (o .1) (q .0) above, i .1))
 
--- The merge answers what was found before and the pairs' points, or 10 where no entry joins some pair.
-pub merged-is : (es : List Entry) (ps : List Pair) (low low' found : ℕ)
+-- The merge finds the pairs' points and what was had before, or none where no entry joins some pair.
+pub merge-is : (es : List Entry) (ps : List Pair) (low low' had : ℕ)
     → All (λ (e : Entry). (e .0 < e .1) × (e .1 < 1024)) es
     → ascendingFrom low (map (λ (e : Entry). key (e .0) (e .1)) es) ≡ true
     → All (λ (p : Pair). (p .0 < p .1) × (p .1 < 1024)) ps
     → ascendingFrom low' (map (λ (p : Pair). p .0) ps) ≡ true
-    → merged es ps found
-    ≡ cond (all (λ (p : Pair). ltb 0 (joined es (p .0) (p .1))) ps) (Points (found + sum (listed es) ps)) (Refused 10)
-merged-is es [] low low' found o s q r = rw add-zero
-merged-is [] (p ∷ ps) low low' found o s q r = rw (not-joined [] p tt (q .0) tt .0)
-merged-is (e ∷ es) (p ∷ ps) low low' found o s q r =
+    → merge es ps had
+    ≡ cond (all (λ (p : Pair). ltb 0 (joined es (p .0) (p .1))) ps) (some (had + sum (listed es) ps)) none
+merge-is es [] low low' had o s q r = rw add-zero
+merge-is [] (p ∷ ps) low low' had o s q r = rw (not-joined [] p tt (q .0) tt .0)
+merge-is (e ∷ es) (p ∷ ps) low low' had o s q r =
     go (ltT (pairKey p) (entryKey e)) (eqT (entryKey e) (pairKey p))
-    (merged-is es ps (suc (entryKey e)) (suc (p .0)) (found + e .2) (o .1) (t .1) (q .1) (u .1))
-    (merged-is es (p ∷ ps) (suc (entryKey e)) low' found (o .1) (t .1) q r)
+    (merge-is es ps (suc (entryKey e)) (suc (p .0)) (had + e .2) (o .1) (t .1) (q .1) (u .1))
+    (merge-is es (p ∷ ps) (suc (entryKey e)) low' had (o .1) (t .1) q r)
   where
     t : (low ≤ entryKey e) × (ascendingFrom (suc (entryKey e)) (map entryKey es) ≡ true)
     t = ascending-cons low (entryKey e) (map entryKey es) s
@@ -73,10 +72,10 @@ merged-is (e ∷ es) (p ∷ ps) low low' found o s q r =
 
     go : {a b : Bool} → Test (pairKey p < entryKey e) (entryKey e ≤ pairKey p) a
         → Test (entryKey e ≡ pairKey p) (entryKey e ≢ pairKey p) b
-        → merged es ps (found + e .2) ≡ outcome (join es ps) (found + e .2 + sum (listed es) ps)
-        → merged es (p ∷ ps) found ≡ outcome (join es (p ∷ ps)) (found + sum (listed es) (p ∷ ps))
-        → cond a (Refused 10) (cond b (merged es ps (found + e .2)) (merged es (p ∷ ps) found))
-        ≡ outcome (join (e ∷ es) (p ∷ ps)) (found + sum (listed (e ∷ es)) (p ∷ ps))
+        → merge es ps (had + e .2) ≡ outcome (join es ps) (had + e .2 + sum (listed es) ps)
+        → merge es (p ∷ ps) had ≡ outcome (join es (p ∷ ps)) (had + sum (listed es) (p ∷ ps))
+        → cond a none (cond b (merge es ps (had + e .2)) (merge es (p ∷ ps) had))
+        ≡ outcome (join (e ∷ es) (p ∷ ps)) (had + sum (listed (e ∷ es)) (p ∷ ps))
     go (pass h) y i j = rw (not-joined (e ∷ es) p o (q .0) (h, entries-above e es p (t .1) (omega arith)) .0)
     go (fail h) (pass k) i j =
         let m =
