@@ -6,3 +6,4 @@ pub mod Fields
 pub mod RoundTrip
 pub mod Walk
 pub mod Outputs
+pub mod Worked

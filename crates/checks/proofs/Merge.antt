@@ -1,5 +1,5 @@
--- The merge of entries and pairs, both ascending, finds the pairs and their points (`merge-is`). In order: what an entry
--- says of pairs above it (`past`) and of the first pair (`met`); the merge. Assumes nothing.
+-- The merge of entries and pairs, both ascending, finds the pairs and their points (`merge-is`). In order: what an
+-- entry says of pairs above it (`past`) and of the first pair (`met`); the merge. Assumes nothing.
 use mathlib.Core.Path.{_≡_, refl, ap₂, _∙_}
 use mathlib.Core.Logic.{_≢_}
 use mathlib.Core.Bool.{Bool, true, cond}

@@ -11,8 +11,8 @@ use lib.Seq.{take-set-le, take-suc-set, drop-set-lt, drop-set-add}
 use Rattle.matching.specs.Pairs.{Points}
 use Rattle.matching.specs.Steps.{leaf, apply}
 use Rattle.slots.specs.Slots.{Aside}
-use Rattle.taking.specs.Trail.{closing, stepWords, trail}
-use Rattle.taking.proofs.TakenRow.{take-same, drop-same}
+use Rattle.trail.specs.Trail.{closing, stepWords, trail}
+use Rattle.trail.proofs.TakenRow.{take-same, drop-same}
 use Rattle.leaves.specs.Runs.{leavesAt, Words, leafWords}
 
 -- ---- a part that is filled

@@ -11,7 +11,7 @@ use Rattle.matching.specs.Steps.{Step, leaf}
 use Rattle.matching.specs.Slip.{left, carried, reduce}
 use Rattle.slots.specs.Slots.{Holds, graphOf, Joins, lessAll}
 use Rattle.finding.specs.Bounds.{Quiet}
-use Rattle.taking.specs.Trail.{closing}
+use Rattle.trail.specs.Trail.{closing}
 use Rattle.leaves.specs.declared.Owed.{Owed}
 use Rattle.leaves.specs.declared.LeafRun.{LeafRun}
 

@@ -6,16 +6,16 @@
 use finding::bounds;
 use slots::change;
 use slots::read;
-use taking;
+use trail;
 ghost use mathlib.Core.Path.{_≡_};
 ghost use mathlib.Core.Bool.{true};
-ghost use Prim.Native.Nat.{_+_, _<_, _≤_, min};
+ghost use Prim.Native.Nat.{_+_, _<_, _≤_};
 ghost use lib.ListN.{length, set};
 ghost use Rattle.matching.specs.Pairs.{touches};
 ghost use Rattle.matching.specs.Graph.{Graph};
 ghost use Rattle.slots.specs.Slots.{Holds, graphOf, lowOf, highOf};
 ghost use Rattle.finding.specs.Bounds.{Quiet};
-ghost use Rattle.taking.specs.Trail.{closing};
+ghost use Rattle.trail.specs.Trail.{closing};
 ghost use Rattle.leaves.specs.Runs.{FirstLeaf, KeptPoints, Slack, Due, LeafRunThere, Owes, Taken};
 
 // More than any points.
@@ -103,7 +103,7 @@ fn note(w2: &mut [u64], t: usize, k: usize, u: usize, v: usize)
     requires { ⌜ (8192 ≤ length (now w2)) × (t < 4096) × (k < 1024) × (u < 1024) × (v < 1024) ⌝ }
     ensures { λ _. ⌜ now (w2 .exit) ≡ set (set (now (w2 .entry)) t (closing 1 u v 0 0 0)) (6144 + k) (1024 + v) ⌝ }
 {
-    w2[t] = taking::closing_word(LEAF, u, v, 0, 0, 0);
+    w2[t] = trail::closing_word(LEAF, u, v, 0, 0, 0);
     w2[NAMES + k] = LEAF_NAME + v as u64;
 }
 

@@ -19,13 +19,12 @@ use Rattle.cellfile.specs.Files.{storeList, cellsOf}
 use Rattle.checks.specs.Refusals.{first, listRows}
 use Rattle.starting.specs.Steps.{graphIn}
 use Rattle.running.specs.Running.{After}
-use Rattle.taking.specs.Trail.{Small}
+use Rattle.trail.specs.Trail.{Small}
 use Rattle.checks.proofs.Accepted.{accepted-list}
 use Rattle.starting.proofs.OnList.{list-graph, left-small}
-use Rattle.taking.proofs.Trail.{trail-room}
-use Rattle.partners.specs.Back.{Mates}
-use Rattle.partners.specs.Table.{TrailKept}
-use Rattle.partners.proofs.Marking.{words-same}
+use Rattle.trail.proofs.Trail.{trail-room}
+use Rattle.partners.specs.Table.{Mates, TrailKept}
+use Rattle.undoing.proofs.Marking.{words-same}
 use Rattle.lifting.specs.Ending.{ReturnThere}
 use Rattle.lifting.specs.Tail.{TrailThere, after, TailThere}
 

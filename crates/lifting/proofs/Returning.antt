@@ -20,7 +20,7 @@ use Rattle.cellfile.specs.Answers.{Answer}
 use Rattle.checks.specs.Answering.{Does}
 use Rattle.lifting.specs.Calls.{pairFile}
 use Rattle.cellfile.specs.Words.{pairWord}
-use Rattle.partners.specs.Back.{BackThere, Lifted}
+use Rattle.undoing.specs.Back.{BackThere, Lifted}
 use Rattle.partners.specs.Table.{TableThere, Listed}
 use Rattle.lifting.specs.Ending.{wordsFile, ReturnThere}
 use Rattle.lifting.proofs.Pairs.{pairs-file}

@@ -23,8 +23,7 @@ use Rattle.starting.specs.Starting.{listStart, StartDone}
 use Rattle.checks.specs.Answering.{Does}
 use Rattle.checks.proofs.Answering.{refused, passed}
 use Rattle.reduction.proofs.Reducing.{reduce-allowed, reduce-after}
-use Rattle.partners.specs.Back.{Mates}
-use Rattle.partners.specs.Table.{TrailKept, WordsThere}
+use Rattle.partners.specs.Table.{Mates, TrailKept, WordsThere}
 use Rattle.matching.specs.Solve.{solution}
 use Rattle.lifting.specs.Calls.{pairFile, graphAfter, pairingFile}
 use Rattle.solving.specs.Left.{LeftThere, SolvedIn}

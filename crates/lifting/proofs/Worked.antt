@@ -9,8 +9,8 @@ use Rattle.cellfile.specs.Bytes.{number}
 use Rattle.cellfile.specs.Fields.{fields, readRecords}
 use Rattle.checks.specs.Refusals.{fewWords, notAList, tooLarge, wrongLength, strayEntry, unordered, misheaded, badSlip}
 use Rattle.checks.specs.Refusals.{badPairing}
-use Rattle.weighing.proofs.Worked.{list, pairing}
 use Rattle.lifting.specs.Calls.{lifting}
+use Rattle.cellfile.proofs.Worked.{list, pairing}
 
 -- kind 3, two cells, no step
 abbrev empty-slip : List ℕ

@@ -9,7 +9,7 @@ use Rattle.cellfile.specs.Words.{fileOf}
 use Rattle.cellfile.specs.Answers.{Answer}
 use Rattle.checks.specs.Answering.{Does}
 use Rattle.lifting.specs.Calls.{pairFile}
-use Rattle.partners.specs.Back.{BackThere}
+use Rattle.undoing.specs.Back.{BackThere}
 
 -- The pairing whose pairs are the first r words.
 abbrev pub wordsFile : ℕ → ℕ → List ℕ → List ℕ

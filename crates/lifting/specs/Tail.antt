@@ -12,7 +12,7 @@ use Rattle.matching.specs.Slip.{replay, left, lift}
 use Rattle.checks.specs.Refusals.{Row, crowded}
 use Rattle.cellfile.specs.Answers.{Answer}
 use Rattle.slots.specs.Slots.{Holds, graphOf}
-use Rattle.taking.specs.Trail.{trail, Small}
+use Rattle.trail.specs.Trail.{trail, Small}
 use Rattle.checks.specs.Answering.{Does}
 use Rattle.lifting.specs.Calls.{pairFile}
 use Rattle.matching.specs.Solve.{solution}

@@ -3,7 +3,7 @@ use crate::Paired;
 use crate::ends;
 use checks;
 use checks::Checked;
-use partners::table;
+use partners;
 use running::lists;
 use solving;
 use solving::Solved;
@@ -74,7 +74,7 @@ fn lift_pairing(
     ensures { λ a. ⌜ LiftsPairing n t (now (pairing .entry)) k r (now (w1 .entry)) (now (w2 .entry))
         (now (out .entry)) (now (out .exit)) (paired a) ⌝ }
 {
-    if table::enter(pairing, k, w1, r, w2, n) {
+    if partners::enter(pairing, k, w1, r, w2, n) {
         return Paired::Refused(10);
     }
     ends::bring_back(n, t, w1, w2, out)

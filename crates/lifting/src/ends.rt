@@ -1,8 +1,8 @@
 // Inner: the end of a call, which writes its pairing. See specs/Ending.
 use crate::Paired;
 use cellfile::write;
-use partners::back;
-use partners::table;
+use partners;
+use undoing;
 ghost use mathlib.Core.List.{_∷_, []};
 ghost use Prim.Native.Nat.{_≤_};
 ghost use lib.ListN.{length};
@@ -29,7 +29,7 @@ pub fn bring_back(n: usize, t: usize, w1: &mut [u64], w2: &mut [u64], out: &mut 
     requires { ⌜ ReturnThere n t (now w1) (now w2) ⌝ }
     ensures { λ a. ⌜ Returns n t (now (w1 .entry)) (now (w2 .entry)) (now (out .entry)) (now (out .exit)) (paired a) ⌝ }
 {
-    back::lift_back(w1, w2, t);
-    let r = table::list_pairs(w1, w2, n);
+    undoing::lift_back(w1, w2, t);
+    let r = partners::list_pairs(w1, w2, n);
     write_pairs(n, w1, r, out)
 }

@@ -1,7 +1,7 @@
 // Inner functions of pair: see specs/Tail.
 use crate::Paired;
 use crate::ends;
-use partners::table;
+use partners;
 use solving;
 use solving::Solved;
 use starting;
@@ -24,7 +24,7 @@ fn pair_tail(n: usize, e: usize, t: usize, w1: &mut [u64], w2: &mut [u64], out: 
     match solving::solve_left(w1, w2, e, n) {
         Solved::Crowded => Paired::Refused(11),
         Solved::Pairs(r) => {
-            table::enter_words(w1, r, w2);
+            partners::enter_words(w1, r, w2);
             ends::bring_back(n, t, w1, w2, out)
         }
     }

@@ -14,7 +14,7 @@ use Rattle.cellfile.specs.Words.{pairs}
 use Rattle.checks.proofs.Accepted.{pairing-room}
 use Rattle.partners.specs.Table.{FileThere, TrailKept, Entered}
 use Rattle.partners.specs.Entering.{wordKey, absent, Filled}
-use Rattle.partners.proofs.Missing.{allThere, missing-is}
+use Rattle.partners.proofs.Lacking.{allThere, missing-is}
 
 module _ {n : ℕ} {w : Points} {file : List ℕ} {k r : ℕ} {w1 w2 : List ℕ} (h : FileThere n w file k r w1 w2) where
   pub enter-room : (r ≤ 4096) × (r ≤ length w1) × (k < 8192) × (4 + 3 * k ≤ length file)

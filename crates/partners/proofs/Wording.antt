@@ -14,9 +14,8 @@ use Rattle.matching.specs.Pairs.{Pair, Each, hit}
 use Rattle.matching.proofs.Tests.{Test, pass, fail, eqT}
 use Rattle.matching.proofs.Sums.{hit-some}
 use Rattle.cellfile.specs.Fields.{packed}
-use Rattle.partners.specs.Back.{Mates}
+use Rattle.partners.specs.Table.{Mates, TrailKept, WordsThere}
 use Rattle.cellfile.specs.Words.{pairWord}
-use Rattle.partners.specs.Table.{TrailKept, WordsThere}
 use Rattle.partners.specs.Entering.{Empty}
 use Rattle.partners.proofs.Tabled.{mateAt}
 use Rattle.partners.proofs.Filling.{Filling, fill-start, fill-next, some-not, table-other}

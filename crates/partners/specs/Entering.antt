@@ -9,14 +9,13 @@ use lib.ListN.{getD}
 use Rattle.matching.specs.Lists.{distinct}
 use Rattle.matching.specs.Pairs.{Pair}
 use Rattle.matching.specs.Pairing.{cells}
-use Rattle.partners.specs.Back.{Mates}
-use Rattle.partners.specs.Table.{TrailKept}
+use Rattle.partners.specs.Table.{Mates, TrailKept}
 
 -- The cells of a short list's word as one number.
 abbrev pub wordKey : ℕ → ℕ
 wordKey v = v / 17592186044416
 
--- Whether a number of the second list is not in the first, both ascending. Law: proofs/Missing, `missing-is`.
+-- Whether a number of the second list is not in the first, both ascending. Law: proofs/Lacking, `missing-is`.
 abbrev pub absent : List ℕ → List ℕ → Bool
 absent vs [] = false
 absent [] (p ∷ ps) = true

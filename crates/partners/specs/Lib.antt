@@ -1,5 +1,3 @@
--- The table of partners and the way back on it.
-pub mod Back
+-- The table of partners.
 pub mod Table
 pub mod Entering
-pub mod Unwinding

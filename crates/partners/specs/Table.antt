@@ -3,16 +3,19 @@ use mathlib.Core.Path.{_≡_}
 use mathlib.Core.Logic.{_≢_}
 use mathlib.Core.Bool.{Bool, false}
 use mathlib.Core.List.{List, map}
-use Prim.Native.Nat.{ℕ, _≤_, _<_}
+use Prim.Native.Nat.{ℕ, _≤_, _<_, _+_}
 use lib.ListN.{length, getD, take}
 use Rattle.matching.specs.Pairs.{Pair, Points, Each}
-use Rattle.matching.specs.Pairing.{Once}
+use Rattle.matching.specs.Pairing.{Once, partner}
 use Rattle.matching.specs.Listed.{shortList, filed}
 use Rattle.matching.specs.Graph.{Graph}
 use Rattle.cellfile.specs.Files.{countOf, pairsOf}
 use Rattle.checks.specs.Refusals.{badPairing, noPairing}
 use Rattle.cellfile.specs.Words.{shortWord, pairWord}
-use Rattle.partners.specs.Back.{Mates}
+
+-- The table holds the partners of the pairing.
+abbrev pub Mates : List ℕ → List Pair → Type 0
+Mates w2 m = (c : ℕ) → c < 1024 → getD w2 (4096 + c) 0 ≡ partner c m
 
 -- A pairing file that has passed refusal 9, and the short list of a graph of n cells as words.
 pub record FileThere (n : ℕ) (w : Points) (file : List ℕ) (k r : ℕ) (w1 w2 : List ℕ) : Type 0 where

@@ -22,7 +22,7 @@ use Rattle.matching.proofs.Demand.{slip-graph}
 use Rattle.matching.proofs.Behind.{behind, left-append, carried-append, replay-split}
 use Rattle.slots.specs.Slots.{graphOf}
 use Rattle.finding.specs.Bounds.{RingQuiet, RingsLeft}
-use Rattle.taking.specs.Trail.{closing, trail, Small}
+use Rattle.trail.specs.Trail.{closing, trail, Small}
 use Rattle.leaves.specs.Runs.{leavesAt, leafWords, leafNames, Taken}
 use Rattle.leaves.specs.declared.LeafRun.{LeafRun}
 use Rattle.leaves.proofs.Noting.{trail-leaves}
@@ -30,7 +30,7 @@ use Rattle.running.specs.Course.{course}
 use Rattle.running.specs.Running.{namesFrom, Spare, After}
 use Rattle.cellfile.specs.Words.{nameWord}
 use Rattle.running.proofs.Course.{behind-append, behind-none}
-use Rattle.taking.proofs.Trail.{trail-append, trail-room}
+use Rattle.trail.proofs.Trail.{trail-append, trail-room}
 use Rattle.running.proofs.Runs.{Coursing, fuel, names-out, name-word}
 
 -- the name of a leaf step as a word

@@ -37,11 +37,11 @@ use Rattle.slots.specs.Slots.{graphOf}
 use Rattle.slots.proofs.Holding.{holds-room, holds-aside}
 use Rattle.finding.specs.Finding.{toTell, Finds, stepFrom, stepOf}
 use Rattle.finding.specs.Bounds.{Quiet, Quieted, RingQuiet, LowestRing, RingQuieted}
-use Rattle.taking.specs.Trail.{stepWords, trail, Small}
+use Rattle.trail.specs.Trail.{stepWords, trail, Small}
 use Rattle.taking.specs.Applying.{StepThere, StepTaken}
 use Rattle.finding.specs.declared.Found.{Found}
 use Rattle.taking.specs.declared.Taken.{Taken}
-use Rattle.taking.proofs.TakenRow.{drop-same}
+use Rattle.trail.proofs.TakenRow.{drop-same}
 use Rattle.taking.proofs.Applied.{found-step}
 use Rattle.running.specs.Course.{course}
 use Rattle.running.specs.Running.{namesAt, namesFrom, nextStep, Names, RunThere, After, RunDone}
@@ -49,7 +49,7 @@ use Rattle.cellfile.specs.Words.{nameWord}
 use Rattle.running.specs.declared.Name.{Name}
 use Rattle.running.proofs.Course.{OneLess, course-on, course-refused, course-ends, course-out, behind-append}
 use Rattle.running.proofs.Course.{behind-nil, behind-none, next-named}
-use Rattle.taking.proofs.Trail.{trail-append, trail-room}
+use Rattle.trail.proofs.Trail.{trail-append, trail-room}
 
 -- ---- the names of a slip
 

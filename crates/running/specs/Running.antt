@@ -13,7 +13,7 @@ use Rattle.cellfile.specs.Fields.{readRecords}
 use Rattle.cellfile.specs.Files.{slip as slipLayout, asPair, asName, numberOf}
 use Rattle.buffers.specs.Buffers.{Cleared}
 use Rattle.slots.specs.Slots.{Holds, graphOf}
-use Rattle.taking.specs.Trail.{trail, Small}
+use Rattle.trail.specs.Trail.{trail, Small}
 use Rattle.running.specs.Course.{course}
 use Rattle.running.specs.declared.Name.{Name}
 use Rattle.running.specs.declared.Ran.{Ran}

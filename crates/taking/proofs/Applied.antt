@@ -41,8 +41,8 @@ use Rattle.slots.proofs.Graphs.{holds-graph}
 use Rattle.slots.proofs.Lives.{live-most}
 use Rattle.slots.proofs.Holding.{holds-room, holds-trail, joins-pair}
 use Rattle.finding.specs.Rows.{innerAt}
-use Rattle.taking.specs.Taking.{RowThere, RowTaken}
-use Rattle.taking.specs.Trail.{closing, stepWords}
+use Rattle.trail.specs.Taking.{RowThere, RowTaken}
+use Rattle.trail.specs.Trail.{closing, stepWords}
 use Rattle.finding.specs.Finding.{told, toTell, Way, Finds, asStep, stepOf}
 use Rattle.taking.specs.Applying.{StepThere, StepTaken}
 use Rattle.taking.specs.Putting.{Unpaired, RowGone, EndsThere, EndsPut, LeafThere, RingThere, ChainThere}
@@ -52,7 +52,7 @@ use Rattle.finding.specs.declared.Step.the-variants as found
 use Rattle.taking.specs.declared.Cleared.{Cleared}
 use Rattle.taking.specs.declared.Raised.{Raised}
 use Rattle.taking.specs.declared.Taken.{Taken}
-use Rattle.taking.proofs.TakenRow.{take-same}
+use Rattle.trail.proofs.TakenRow.{take-same}
 use Rattle.taking.proofs.Putting.{at-pair}
 
 -- ---- a row that goes

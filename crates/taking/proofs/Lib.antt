@@ -1,5 +1,3 @@
--- The laws of taking a step, and of the trail.
-pub mod Trail
-pub mod TakenRow
+-- The laws of taking a step.
 pub mod Putting
 pub mod Applied

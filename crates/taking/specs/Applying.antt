@@ -8,7 +8,7 @@ use Rattle.matching.specs.Steps.{Rule, Step, apply, carry}
 use Rattle.matching.specs.Shapes.{IsStep}
 use Rattle.slots.specs.Slots.{Holds, graphOf}
 use Rattle.finding.specs.Finding.{Finds}
-use Rattle.taking.specs.Trail.{stepWords}
+use Rattle.trail.specs.Trail.{stepWords}
 use Rattle.finding.specs.declared.Found.{Found}
 use Rattle.taking.specs.declared.Taken.{Taken}
 

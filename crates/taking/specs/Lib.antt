@@ -1,5 +1,3 @@
--- Taking a step on the working graph, and the trail.
-pub mod Trail
-pub mod Taking
+-- Taking a step on the working graph.
 pub mod Putting
 pub mod Applying

@@ -1,11 +1,9 @@
-// Inner, for the reduction: takes a step that was found. See specs/Applying and specs/Trail, and specs/Putting for its
-// parts.
-mod row;
-
+// Inner, for the reduction: takes a step that was found. See specs/Applying, and specs/Putting for its parts.
 use finding;
 use finding::Found;
 use slots::change;
 use slots::read;
+use trail;
 ghost use mathlib.Core.Path.{_≡_};
 ghost use mathlib.Core.Logic.{_≢_};
 ghost use mathlib.Core.Option.{some};
@@ -15,9 +13,8 @@ ghost use Rattle.matching.specs.Pairs.{ι};
 ghost use Rattle.matching.specs.Graph.{put};
 ghost use Rattle.matching.specs.Steps.{Step, leaf, ring, chain};
 ghost use Rattle.slots.specs.Slots.{Holds, graphOf, Changed, live};
-ghost use Rattle.taking.specs.Trail.{closing};
 ghost use Rattle.finding.specs.Rows.{innerAt};
-ghost use Rattle.taking.specs.Taking.{RowThere};
+ghost use Rattle.trail.specs.Taking.{RowThere};
 ghost use Rattle.finding.specs.Finding.{stepOf};
 ghost use Rattle.taking.specs.Applying.{StepThere, StepTaken};
 ghost use Rattle.taking.specs.Putting.{Unpaired, RowGone, PairRaised, EndsThere, EndsPut, LeafThere, RingThere};
@@ -61,30 +58,6 @@ fn put_pair(w1: &mut [u64], w2: &mut [u64], e: usize, x: usize, y: usize, w: u64
     e + 1
 }
 
-// The places of the closing word's parts: see specs/Trail.
-const CELL_U: u64 = 4;
-
-const CELL_V: u64 = 4096;
-
-const CELL_Z: u64 = 4194304;
-
-const PAIRS: u64 = 4294967296;
-
-const MORE: u64 = 35184372088832;
-
-// The word that closes a step's part of the trail.
-pub fn closing_word(rule: u64, u: usize, v: usize, z: usize, pairs: usize, more: u64) -> u64
-    requires { ⌜ (rule ≤ 3) × (u < 1024) × (v < 1024) × (z < 1024) × (pairs ≤ 4096) × (more ≤ 1) ⌝ }
-    ensures { λ r. ⌜ r ≡ closing rule u v z pairs more ⌝ }
-{
-    rule
-        + u as u64 * CELL_U
-        + v as u64 * CELL_V
-        + z as u64 * CELL_Z
-        + pairs as u64 * PAIRS
-        + more * MORE
-}
-
 // After a row went: the slots in use, and how many pairs the row had.
 struct Cleared {
     slots: usize,
@@ -105,7 +78,7 @@ fn clear_row(
     requires { ⌜ RowThere e (now w1) (now w2) t u f i v ⌝ }
     ensures { λ r. ⌜ RowGone e (now (w1 .entry)) (now (w2 .entry)) (now (w1 .exit)) (now (w2 .exit)) t u f v r ⌝ }
 {
-    let pairs = row::take_row(w1, w2, e, t, u, f, i, v);
+    let pairs = trail::take_row(w1, w2, e, t, u, f, i, v);
     let slots = room(w1, w2, e);
     Cleared { slots, pairs }
 }
@@ -198,7 +171,7 @@ fn take_leaf(
         (leaf u v) r ⌝ }
 {
     let carried = change::leaf(w1, w2, e, v, u, i);
-    w2[t] = closing_word(LEAF, u, v, 0, 0, 0);
+    w2[t] = trail::closing_word(LEAF, u, v, 0, 0, 0);
     Taken {
         slots: e,
         trail: t + 1,
@@ -226,7 +199,7 @@ fn take_ring(
     let end = t + pairs;
     let points = rows::ring_points(&w2[t..end]);
     let slots = put_pair(w1, w2, cleared.slots, u, z, points.whole - points.less_u);
-    w2[end] = closing_word(RING, u, 0, z, pairs, 0);
+    w2[end] = trail::closing_word(RING, u, 0, z, pairs, 0);
     Taken {
         slots,
         trail: end + 1,
@@ -266,7 +239,7 @@ fn take_chain(
         points.less_u - q,
         points.less_v - q,
     );
-    w2[end] = closing_word(CHAIN, u, v, z, pairs, raised.more);
+    w2[end] = trail::closing_word(CHAIN, u, v, z, pairs, raised.more);
     Taken {
         slots: raised.slots,
         trail: end + 1,

@@ -1,5 +1,5 @@
--- What the contract of `matched` cites: the merge of entries and pairs as weighing answers it. Nobody has to believe this:
--- the law of the merge (`merge-is` of crate checks) ties it to the definition of weighing.
+-- What the contract of `matched` cites: the merge of entries and pairs as weighing answers it. Nobody has to believe
+-- this: the law of the merge (`merge-is` of crate checks) ties it to the definition of weighing.
 use mathlib.Core.List.{List}
 use mathlib.Core.Option.{Option, some, none}
 use Prim.Native.Nat.{ℕ}

@@ -8,6 +8,11 @@ use Rattle.cellfile.specs.Answers.{Answer, answer}
 use Rattle.weighing.specs.declared.Weighed.{Weighed}
 use Rattle.weighing.specs.declared.Weighed.the-variants as weighs
 
+-- The number and the values of each case of the answer enum.
+abbrev pub weighed : Weighed → Answer
+weighed (weighs.Refused k) = (k, [])
+weighed (weighs.Points p) = (0, p ∷ [])
+
 -- Refusals 9 and 10 of a pairing. It is for the entries of the list, those of zero points too.
 abbrev pub formRow : List ℕ → List ℕ → Row
 formRow list pairing = (9, badPairing (cellsOf list) pairing)
@@ -25,8 +30,3 @@ weighing list pairing lent = answer (first rows) (weight list pairing)
   where
     rows : List Row
     rows = (1, fewWords lent) ∷ (listRows storeList list ++ (formRow list pairing ∷ pairRow list pairing ∷ []))
-
--- The number and the values of each case of the answer enum.
-abbrev pub weighed : Weighed → Answer
-weighed (weighs.Refused k) = (k, [])
-weighed (weighs.Points p) = (0, p ∷ [])

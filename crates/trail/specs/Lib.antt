@@ -1,0 +1,3 @@
+-- The trail, and a row taken onto it.
+pub mod Trail
+pub mod Taking

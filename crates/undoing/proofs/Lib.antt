@@ -1,0 +1,7 @@
+-- The laws of the way back.
+pub mod Mating
+pub mod Marking
+pub mod Freeing
+pub mod Undoing
+pub mod Closing
+pub mod Backing

@@ -1,0 +1,193 @@
+-- Putting the marked pairs of a row into the table, the last first. In order: the pairs of a row by its words
+-- (`row-pairs`); words of the trail that did not change (`words-same`); the loop, whose state is that the pairs from
+-- place j on are in the table (`Putting`): before it (`put-none`), what its call asks (`put-asks`), one pair more
+-- (`put-more`), and after it (`put-all`). Assumes nothing.
+use mathlib.Core.Path.{_≡_, refl, sym, ap, ap₂, subst, _∙_}
+use mathlib.Core.Bool.{Bool, true, false, cond}
+use mathlib.Core.List.{List, [], _∷_, _++_}
+use Prim.Native.Nat.{ℕ, zero, suc, _+_, _-_, _≤_, _<_}
+use native.Mathlib.Omega.{arith}
+use lib.Dec.{eqb}
+use lib.ListN.{length, getD, set, take, drop, length-set, length-drop}
+use lib.Seq.{length-take-le, drop-length, drop-cons, getD-take, getD-drop, ext-getD}
+use Rattle.matching.specs.Pairs.{Pair, Points, sum, Each, hit}
+use Rattle.matching.specs.Pairing.{Once}
+use Rattle.matching.specs.Best.{walk}
+use Rattle.matching.proofs.Sums.{sum-append}
+use Rattle.rows.specs.Row.{rowWords, marked}
+use Rattle.partners.specs.Table.{TrailKept}
+use Rattle.undoing.specs.Unwinding.{joined, TableOf, cellOf, startOf, rowPairs, wordsAt, PutThere}
+use Rattle.undoing.proofs.Mating.{joined-aside, mates-join}
+
+-- ---- the pairs of a row by its words
+
+row-start : (w : Points) (u : ℕ) (cs : List ℕ) (v : ℕ) → Each (λ a b. w a b < 17592186044416) (walk u cs v)
+    → startOf (rowWords w u cs v) v ≡ u
+row-start w u [] v p = omega (arith, p .0)
+row-start w u (c ∷ cs) v p = omega (arith, p .0)
+
+pub row-pairs : (w : Points) (u : ℕ) (cs : List ℕ) (v : ℕ) → Each (λ a b. w a b < 17592186044416) (walk u cs v)
+    → rowPairs (rowWords w u cs v) v ≡ walk u cs v
+row-pairs w u [] v p = ap (λ x. (x, v) ∷ []) (row-start w u [] v p)
+row-pairs w u (c ∷ cs) v p =
+    ap₂ (λ (e : Pair) es. e ∷ es)
+    (ap₂ (λ (x y : ℕ). (x, y)) (row-start w u (c ∷ cs) v p) (row-start w c cs v (p .1)))
+    (row-pairs w c cs v (p .1))
+
+pub words-same : (a k : ℕ) (w2 w2′ : List ℕ) → TrailKept w2 w2′ → a + k ≤ 4096 → 8192 ≤ length w2
+    → length w2′ ≡ length w2 → take k (drop a w2′) ≡ take k (drop a w2)
+words-same a k w2 w2′ h l r s =
+    let n : length (take k (drop a w2)) ≡ k = length-take-le k (drop a w2) (omega (arith, length-drop a w2)) in
+    let n′ : length (take k (drop a w2′)) ≡ k = length-take-le k (drop a w2′) (omega (arith, length-drop a w2′)) in
+    ext-getD 0 (take k (drop a w2′)) (take k (drop a w2)) (n′ ∙ sym n)
+    (λ i q. let q′ : i < k = omega arith in
+    getD-take k (drop a w2′) i 0 q′
+    ∙ getD-drop a w2′ i 0
+    ∙ h (a + i) (omega arith)
+    ∙ sym (getD-take k (drop a w2) i 0 q′ ∙ getD-drop a w2 i 0))
+
+-- ---- the loop
+
+each-drop : (P : ℕ → ℕ → Type 0) (i : ℕ) (ws : List ℕ) (v : ℕ) → Each P (rowPairs ws v)
+    → Each P (rowPairs (drop i ws) v)
+each-drop P zero ws v p = p
+each-drop P (suc i) [] v p = p
+each-drop P (suc i) (x ∷ ws) v p = each-drop P i ws v (p .1)
+
+sum-drop : (f : Points) (i : ℕ) (marks ws : List ℕ) (v : ℕ)
+    → sum f (marked (drop i marks) (rowPairs (drop i ws) v)) ≤ sum f (marked marks (rowPairs ws v))
+sum-drop f zero marks ws v = omega arith
+sum-drop f (suc i) [] ws v = omega arith
+sum-drop f (suc i) (m ∷ marks) [] v = none (drop i marks)
+  where
+    none : (ms : List ℕ) → sum f (marked ms []) ≤ 0
+    none [] = omega arith
+    none (m ∷ ms) = omega arith
+sum-drop f (suc i) (m ∷ marks) (x ∷ ws) v = go (eqb m 1) (sum-drop f i marks ws v)
+  where
+    e : Pair
+    e = (cellOf x, startOf ws v)
+
+    go : (t : Bool) → sum f (marked (drop i marks) (rowPairs (drop i ws) v)) ≤ sum f (marked marks (rowPairs ws v))
+        → sum f (marked (drop i marks) (rowPairs (drop i ws) v))
+        ≤ sum f (cond t (e ∷ marked marks (rowPairs ws v)) (marked marks (rowPairs ws v)))
+    go true h = omega arith
+    go false h = h
+
+-- The pairs of places j and up are in the table, `to` is the cell that place j starts from.
+pub record Putting {a v : ℕ} {marks w2₀ : List ℕ} (p : PutThere a v marks w2₀) (j to : ℕ) (w2 : List ℕ) : Type 0 where
+  pub most : j ≤ length marks
+  pub same : length w2 ≡ length w2₀
+  pub start : to ≡ startOf (drop j (wordsAt a marks w2₀)) v
+  pub table : TableOf w2₀ w2
+      (marked (drop j marks) (rowPairs (drop j (wordsAt a marks w2₀)) v) ++ p .pairs)
+
+module _ {a v : ℕ} {marks w2₀ : List ℕ} (p : PutThere a v marks w2₀) where
+  abbrev ws : List ℕ
+  ws = wordsAt a marks w2₀
+
+  abbrev m : List Pair
+  m = p .pairs
+
+  abbrev from-place : ℕ → List Pair
+  from-place j = marked (drop j marks) (rowPairs (drop j ws) v)
+
+  ws-length : length ws ≡ length marks
+  ws-length =
+      length-take-le (length marks) (drop a w2₀) (omega (arith, p .on-trail, p .room2, length-drop a w2₀))
+
+  ws-end : drop (length marks) ws ≡ []
+  ws-end = ap (λ k. drop k ws) (sym ws-length) ∙ drop-length ws
+
+  pub put-none : Putting p (length marks) v w2₀
+  put-none = record {
+    most = omega arith;
+    same = refl;
+    start = sym (ap (λ xs. startOf xs v) ws-end);
+    table = record {
+      mates = rw (drop-length marks) (p .mates);
+      aside = λ j l. refl;
+    };
+  }
+
+  once-from : (i : ℕ) → Once (from-place i ++ m)
+  once-from i c =
+      omega (
+        arith,
+        p .once c,
+        sum-append (hit c) (from-place i) m,
+        sum-append (hit c) (marked marks (rowPairs ws v)) m,
+        sum-drop (hit c) i marks ws v,
+      )
+
+  module _ (i to : ℕ) (w2 : List ℕ) (h : Putting p (suc i) to w2) where
+    words-at : drop i ws ≡ getD ws i 0 ∷ drop (suc i) ws
+    words-at = drop-cons ws i 0 (omega (arith, h .most, ws-length))
+
+    word : getD ws i 0 ≡ getD w2 (a + i) 0
+    word =
+        getD-take (length marks) (drop a w2₀) i 0 (omega (arith, h .most))
+        ∙ getD-drop a w2₀ i 0
+        ∙ sym (h .table .aside (a + i) (omega (arith, h .most, p .on-trail)))
+
+    module _ {from : ℕ} (e : from ≡ cellOf (getD w2 (a + i) 0)) where
+      here : from ≡ cellOf (getD ws i 0)
+      here = e ∙ ap cellOf (sym word)
+
+      pairs-at : rowPairs (drop i ws) v ≡ (from, to) ∷ rowPairs (drop (suc i) ws) v
+      pairs-at =
+          ap (λ xs. rowPairs xs v) words-at
+          ∙ ap₂ (λ (x y : ℕ). (x, y) ∷ rowPairs (drop (suc i) ws) v) (sym here) (sym (h .start))
+
+      below-at : (from < 1024) × (to < 1024)
+      below-at =
+          let q = each-drop (λ x y. (x < 1024) × (y < 1024)) i ws v (p .below) in
+          subst (Each (λ x y. (x < 1024) × (y < 1024))) pairs-at q .0
+
+      asks-at : (8192 ≤ length w2) × (from < 1024) × (to < 1024)
+      asks-at = (omega (arith, h .same, p .room2), below-at .0, below-at .1)
+
+      place-at : from-place i ≡ cond (eqb (getD marks i 0) 1) ((from, to) ∷ from-place (suc i)) (from-place (suc i))
+      place-at = ap₂ marked (drop-cons marks i 0 (omega (arith, h .most))) pairs-at
+
+      more-at : {w2′ : List ℕ} → w2′ ≡ cond (eqb (getD marks i 0) 1) (joined from to w2) w2 → Putting p i from w2′
+      more-at {w2′} q = record {
+        most = omega (arith, h .most);
+        same = ap length q ∙ len (eqb (getD marks i 0) 1) ∙ h .same;
+        start = here ∙ sym (ap (λ xs. startOf xs v) words-at);
+        table =
+            subst (λ xs. TableOf w2₀ xs (from-place i ++ m)) (sym q)
+            (subst (λ es. TableOf w2₀ (cond (eqb (getD marks i 0) 1) (joined from to w2) w2) (es ++ m)) (sym place-at)
+            (go (eqb (getD marks i 0) 1) (subst (λ es. Once (es ++ m)) place-at (once-from i))));
+      }
+        where
+          len : (t : Bool) → length (cond t (joined from to w2) w2) ≡ length w2
+          len true = length-set (set w2 (4096 + from) (to + 1)) (4096 + to) (from + 1)
+              ∙ length-set w2 (4096 + from) (to + 1)
+          len false = refl
+
+          go : (t : Bool) → Once (cond t ((from, to) ∷ from-place (suc i)) (from-place (suc i)) ++ m)
+              → TableOf w2₀ (cond t (joined from to w2) w2)
+              (cond t ((from, to) ∷ from-place (suc i)) (from-place (suc i)) ++ m)
+          go true o = record {
+            mates = mates-join w2 (from-place (suc i) ++ m) from to (asks-at .0) (below-at .0) (below-at .1)
+                (h .table .mates) o;
+            aside = λ j l. joined-aside w2 from to j l ∙ h .table .aside j l;
+          }
+          go false o = h .table
+
+  module _ {j to from : ℕ} {w2 : List ℕ} (h : Putting p j to w2) (l : 0 < j)
+      (e : from ≡ cellOf (getD w2 (a + (j - 1)) 0)) where
+    earlier : Putting p (suc (j - 1)) to w2
+    earlier = subst (λ k. Putting p k to w2) (let q : j ≡ suc (j - 1) = omega arith in q) h
+
+    pub put-asks : (8192 ≤ length w2) × (from < 1024) × (to < 1024)
+    put-asks = asks-at (j - 1) to w2 earlier e
+
+    pub put-more : {w2′ : List ℕ} → w2′ ≡ cond (eqb (getD marks (j - 1) 0) 1) (joined from to w2) w2
+        → Putting p (j - 1) from w2′
+    put-more = more-at (j - 1) to w2 earlier e
+
+  pub put-all : {j to : ℕ} {w2 : List ℕ} → Putting p j to w2 → j ≡ 0
+      → TableOf w2₀ w2 (marked marks (rowPairs ws v) ++ m)
+  put-all {j} {to} {w2} h z = subst (λ k. TableOf w2₀ w2 (from-place k ++ m)) z (h .table)

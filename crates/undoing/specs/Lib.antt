@@ -1,0 +1,3 @@
+-- The way back on the table of partners.
+pub mod Back
+pub mod Unwinding
