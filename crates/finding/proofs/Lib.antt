@@ -6,5 +6,3 @@ pub mod Rowed
 pub mod Lower
 pub mod Scans
 pub mod Gone
-pub mod Quiet
-pub mod Rings

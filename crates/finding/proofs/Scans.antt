@@ -30,8 +30,7 @@ use Rattle.slots.proofs.Graphs.{holds-graph}
 use Rattle.slots.proofs.Holding.{joins-pair, joins-one}
 use Rattle.slots.proofs.Scanning.{joins-turned, joins-some, joins-has, slots-on}
 use Rattle.finding.specs.Finding.{told, toTell, Finds, degreeOf, stepFrom, Unnamed, StepBy, StepAtSlot, FindsBy}
-use Rattle.finding.specs.Finding.{FindsAt, Unmet}
-use Rattle.finding.specs.Bounds.{Quiet}
+use Rattle.finding.specs.Finding.{FindsAt, Unmet, Quiet}
 use Rattle.finding.specs.declared.Found.{Found}
 use Rattle.finding.specs.declared.Step as declared
 use Rattle.finding.specs.declared.Step.the-variants as found

@@ -121,3 +121,13 @@ pub record Unmet (e : ℕ) (w1 : List ℕ) (r : Rule) (c i : ℕ) : Type 0 where
   pub has : (k : ℕ) → i ≡ suc k → touches c (lowOf w1 k) (highOf w1 k) ≡ true
   pub fits : (k : ℕ) → i ≡ suc k → degree 1024 (graphOf e w1) c ≡ degreeOf r
   pub past : (j : ℕ) → i ≤ j → StepAtSlot e w1 r c j none
+
+-- ---- the bounds of the search
+
+-- No cell below `low` has degree one.
+abbrev pub Quiet : ℕ → Points → Type 0
+Quiet low w = (c : ℕ) → c < low → degree 1024 w c ≢ 1
+
+-- No ring step is named by a cell below `low`.
+abbrev pub RingQuiet : ℕ → Points → Type 0
+RingQuiet low w = (c : ℕ) → c < low → Unnamed w by-ring c

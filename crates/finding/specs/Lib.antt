@@ -2,4 +2,3 @@
 pub mod Walks
 pub mod Rows
 pub mod Finding
-pub mod Bounds

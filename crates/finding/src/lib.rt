@@ -1,6 +1,4 @@
 // Inner, for the reduction: finds a step on the working graph. See specs/Walks and specs/Finding.
-pub mod bounds;
-
 use slots::read;
 ghost use mathlib.Core.Path.{_≡_};
 ghost use mathlib.Core.Logic.{_⊎_, _≢_};
@@ -13,9 +11,8 @@ ghost use Rattle.matching.specs.Find.{firstStep};
 ghost use Rattle.slots.specs.Slots.{Holds, graphOf, lowOf, highOf, Joins};
 ghost use Rattle.finding.specs.Walks.{stretchAt, Stops};
 ghost use Rattle.finding.specs.Finding.{told, degreeOf, Finds, stepFrom, Tells, RingTest, ChainTest, FindsBy};
-ghost use Rattle.finding.specs.Finding.{FindsAt, Unmet, Unnamed};
+ghost use Rattle.finding.specs.Finding.{FindsAt, Unmet, Unnamed, Quiet, RingQuiet};
 ghost use Rattle.cellfile.specs.Files.{ruleOf};
-ghost use Rattle.finding.specs.Bounds.{Quiet, RingQuiet};
 
 // The end of a walk, the cell before it, and the slot of the two.
 pub struct Stop {

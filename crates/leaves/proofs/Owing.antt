@@ -30,7 +30,7 @@ use Rattle.matching.proofs.Reduce.{reduce-append}
 use Rattle.matching.proofs.Behind.{left-append, carried-append}
 use Rattle.slots.specs.Slots.{lessAll}
 use Rattle.slots.proofs.Leaving.{only-pair}
-use Rattle.finding.specs.Bounds.{Quiet}
+use Rattle.finding.specs.Finding.{Quiet}
 use Rattle.leaves.specs.Runs.{Slack, Due, leavesAt}
 
 -- ---- where no leaf is

@@ -13,7 +13,7 @@ use Rattle.matching.specs.Graph.{degree}
 use Rattle.matching.proofs.Tests.{Test, pass, fail, eqT}
 use Rattle.slots.specs.Slots.{Holds, graphOf, Changed, lessAll}
 use Rattle.slots.proofs.Holding.{holds-room, holds-aside}
-use Rattle.finding.specs.Bounds.{Quiet}
+use Rattle.finding.specs.Finding.{Quiet}
 use Rattle.trail.specs.Trail.{closing}
 use Rattle.leaves.specs.Runs.{LeafRunThere, Slack, Due, Words, Owes, Taken}
 use Rattle.leaves.specs.declared.Owed.{Owed}

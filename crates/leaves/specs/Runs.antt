@@ -10,7 +10,7 @@ use Rattle.matching.specs.Graph.{Graph, partners, degree}
 use Rattle.matching.specs.Steps.{Step, leaf}
 use Rattle.matching.specs.Slip.{left, carried, reduce}
 use Rattle.slots.specs.Slots.{Holds, graphOf, Joins, lessAll}
-use Rattle.finding.specs.Bounds.{Quiet}
+use Rattle.finding.specs.Finding.{Quiet}
 use Rattle.trail.specs.Trail.{closing}
 use Rattle.leaves.specs.declared.Owed.{Owed}
 use Rattle.leaves.specs.declared.LeafRun.{LeafRun}

@@ -3,7 +3,7 @@
 // While leaves of u go one after the other, in the order in which reduce takes them, the pairs at u have lost together
 // the points of the last leaf's pair as it was at the start. So the graph stays as it is during a run, and every pair
 // at u loses that much once, at its end.
-use finding::bounds;
+use bounds;
 use slots::change;
 use slots::read;
 use trail;
@@ -14,7 +14,7 @@ ghost use lib.ListN.{length, set};
 ghost use Rattle.matching.specs.Pairs.{touches};
 ghost use Rattle.matching.specs.Graph.{Graph};
 ghost use Rattle.slots.specs.Slots.{Holds, graphOf, lowOf, highOf};
-ghost use Rattle.finding.specs.Bounds.{Quiet};
+ghost use Rattle.finding.specs.Finding.{Quiet};
 ghost use Rattle.trail.specs.Trail.{closing};
 ghost use Rattle.leaves.specs.Runs.{FirstLeaf, KeptPoints, Slack, Due, LeafRunThere, Owes, Taken};
 

@@ -21,7 +21,8 @@ use Rattle.matching.proofs.Reduce.{replay-fits, slip-count, reduce-replay, redu
 use Rattle.matching.proofs.Demand.{slip-graph}
 use Rattle.matching.proofs.Behind.{behind, left-append, carried-append, replay-split}
 use Rattle.slots.specs.Slots.{graphOf}
-use Rattle.finding.specs.Bounds.{RingQuiet, RingsLeft}
+use Rattle.finding.specs.Finding.{RingQuiet}
+use Rattle.bounds.specs.Bounds.{RingsLeft}
 use Rattle.trail.specs.Trail.{closing, trail, Small}
 use Rattle.leaves.specs.Runs.{leavesAt, leafWords, leafNames, Taken}
 use Rattle.leaves.specs.declared.LeafRun.{LeafRun}

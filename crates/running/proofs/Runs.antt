@@ -35,8 +35,8 @@ use Rattle.cellfile.specs.declared.decode.SlipStep.{SlipStep}
 use Rattle.cellfile.proofs.Walk.{from-start, from-next, from-end}
 use Rattle.slots.specs.Slots.{graphOf}
 use Rattle.slots.proofs.Holding.{holds-room, holds-aside}
-use Rattle.finding.specs.Finding.{toTell, Finds, stepFrom, stepOf}
-use Rattle.finding.specs.Bounds.{Quiet, Quieted, RingQuiet, LowestRing, RingQuieted}
+use Rattle.finding.specs.Finding.{toTell, Finds, stepFrom, stepOf, Quiet, RingQuiet}
+use Rattle.bounds.specs.Bounds.{Quieted, LowestRing, RingQuieted}
 use Rattle.trail.specs.Trail.{stepWords, trail, Small}
 use Rattle.taking.specs.Applying.{StepThere, StepTaken}
 use Rattle.finding.specs.declared.Found.{Found}

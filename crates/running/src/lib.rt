@@ -1,12 +1,12 @@
 // Inner, for the calls: the loop over the steps of a slip and then those of reduce. See specs/Running and specs/Course.
 pub mod lists;
 
+use bounds;
 use buffers;
 use cellfile::decode;
 use finding;
 use finding::Found;
 use finding::Step;
-use finding::bounds;
 use leaves;
 use taking;
 ghost use mathlib.Core.Path.{_≡_};
@@ -16,8 +16,7 @@ ghost use lib.ListN.{length};
 ghost use Rattle.matching.specs.Graph.{Graph};
 ghost use Rattle.matching.specs.Steps.{Step as DefinedStep};
 ghost use Rattle.slots.specs.Slots.{Holds, graphOf};
-ghost use Rattle.finding.specs.Finding.{told, toTell, Finds};
-ghost use Rattle.finding.specs.Bounds.{Quiet, RingQuiet};
+ghost use Rattle.finding.specs.Finding.{told, toTell, Finds, Quiet, RingQuiet};
 ghost use Rattle.running.specs.Running.{RunThere, Runs, namesAt, namesFrom, nextStep, Names, Spare};
 
 // Refusal 8, or what stands in the buffers after the steps: the slots in use, the words on the trail, the points

@@ -45,15 +45,16 @@ use Rattle.trail.specs.Taking.{RowThere, RowTaken}
 use Rattle.trail.specs.Trail.{closing, stepWords}
 use Rattle.finding.specs.Finding.{told, toTell, Way, Finds, asStep, stepOf}
 use Rattle.taking.specs.Applying.{StepThere, StepTaken}
-use Rattle.taking.specs.Putting.{Unpaired, RowGone, EndsThere, EndsPut, LeafThere, RingThere, ChainThere}
+use Rattle.putting.specs.Putting.{Unpaired, EndsThere, EndsPut}
+use Rattle.taking.specs.Parts.{RowGone, LeafThere, RingThere, ChainThere}
 use Rattle.finding.specs.declared.Found.{Found}
 use Rattle.finding.specs.declared.Step as declared
 use Rattle.finding.specs.declared.Step.the-variants as found
 use Rattle.taking.specs.declared.Cleared.{Cleared}
-use Rattle.taking.specs.declared.Raised.{Raised}
+use Rattle.putting.specs.declared.Raised.{Raised}
 use Rattle.taking.specs.declared.Taken.{Taken}
 use Rattle.trail.proofs.TakenRow.{take-same}
-use Rattle.taking.proofs.Putting.{at-pair}
+use Rattle.putting.proofs.Putting.{at-pair}
 
 -- ---- a row that goes
 

@@ -1,3 +1,2 @@
 -- The laws of taking a step.
-pub mod Putting
 pub mod Applied

@@ -1,3 +1,3 @@
 -- Taking a step on the working graph.
-pub mod Putting
+pub mod Parts
 pub mod Applying

@@ -3,7 +3,7 @@ use mathlib.Core.Path.{sym, _∙_}
 use Prim.Native.Nat.{_-_}
 use native.Mathlib.Omega.{arith}
 use Rattle.slots.specs.Slots.{graphOf}
-use Rattle.finding.specs.Bounds.{Quiet}
+use Rattle.finding.specs.Finding.{Quiet}
 use Rattle.leaves.proofs.Owing.{quiet-on}
 use Rattle.leaves.proofs.first_leaf.Statement.{statement}
 use Rattle.leaves.proofs.first_leaf.Tie as tie

@@ -10,8 +10,7 @@ use Rattle.matching.specs.Steps.{Step}
 use Rattle.buffers.specs.Buffers.{zeros}
 use Rattle.slots.specs.Slots.{graphOf}
 use Rattle.slots.proofs.Holding.{holds-room}
-use Rattle.finding.specs.Finding.{toTell}
-use Rattle.finding.specs.Bounds.{Quiet, RingQuiet}
+use Rattle.finding.specs.Finding.{toTell, Quiet, RingQuiet}
 use Rattle.finding.proofs.Scans.{told-some, told-none, tell-none}
 use Rattle.running.specs.Running.{namesFrom, nextStep, Names}
 use Rattle.running.proofs.Runs.{Coursing, run-start, run-graph, run-name, run-few, run-there, run-step, run-on}

@@ -1,0 +1,3 @@
+-- The laws of the bounds of the search.
+pub mod Quiet
+pub mod Rings

@@ -1,0 +1,2 @@
+-- The bounds of the search.
+pub mod Bounds

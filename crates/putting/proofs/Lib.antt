@@ -1,0 +1,2 @@
+-- The laws of pairs put in place of a row.
+pub mod Putting

@@ -1,0 +1,2 @@
+-- Pairs put in place of a row.
+pub mod Putting
