@@ -1,2 +1,3 @@
 -- The work buffers lent to a call.
 pub mod Buffers
+pub mod Map

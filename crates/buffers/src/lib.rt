@@ -1,4 +1,6 @@
-// Inner, for every call: the work buffers lent to it.
+// Inner, for every call: the work buffers lent to it. `map` says what stands where in them.
+pub mod map;
+
 ghost use Rattle.buffers.specs.Buffers.{Cleared};
 
 // Every word is zero afterwards, whatever the length.

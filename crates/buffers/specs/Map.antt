@@ -1,0 +1,28 @@
+-- The map of the two work buffers, what stands where and how wide it is packed; code: src/map.rt. Inner contracts cite
+-- these.
+use Prim.Native.Nat.{ℕ}
+
+-- First buffer: the weights of the slots stand from 0 on, and from here on the words of their cells.
+abbrev pub atCells : ℕ
+atCells = 4096
+
+-- Second buffer: the trail stands from 0 on in so many words; then for each cell the sum of its slots and its last slot,
+-- the steps as words of a slip, and the table of partners.
+abbrev pub trailRoom : ℕ
+trailRoom = 4096
+
+abbrev pub atSums : ℕ
+atSums = 4096
+
+abbrev pub atLasts : ℕ
+atLasts = 5120
+
+abbrev pub atNames : ℕ
+atNames = 6144
+
+abbrev pub atTable : ℕ
+atTable = 7168
+
+-- A row word is a cell above the 54 bits of the points of a pair: one of the cell.
+abbrev pub unit : ℕ
+unit = 18014398509481984

@@ -1,0 +1,22 @@
+// Inner: the map of the two work buffers, what stands where and how wide it is packed. Definitions: specs/Map.
+
+// The words that a call needs of each buffer.
+pub const WORDS: usize = 8192;
+
+// First buffer: the weights of the slots stand from 0 on, and from here on the words of their cells.
+pub const CELL_WORDS: usize = 4096;
+
+// Second buffer: the trail stands from 0 on in so many words; then for each cell the sum of its slots and its last slot,
+// the steps as words of a slip, and the table of partners.
+pub const TRAIL_WORDS: usize = 4096;
+
+pub const SUMS: usize = 4096;
+
+pub const LASTS: usize = 5120;
+
+pub const NAMES: usize = 6144;
+
+pub const TABLE: usize = 7168;
+
+// A row word is a cell above the points of a pair: one of the cell.
+pub const POINTS_UNIT: u64 = 18014398509481984;
