@@ -6,8 +6,8 @@ use Prim.Native.Nat.{ℕ}
 abbrev pub atCells : ℕ
 atCells = 4096
 
--- Second buffer: the trail stands from 0 on in so many words; then for each cell the sum of its slots and its last slot,
--- the steps as words of a slip, and the table of partners.
+-- Second buffer: the trail stands from 0 on in so many words; then for each cell the sum of its slots and its last
+-- slot, the steps as words of a slip, and the table of partners.
 abbrev pub trailRoom : ℕ
 trailRoom = 4096
 
@@ -22,6 +22,13 @@ atNames = 6144
 
 abbrev pub atTable : ℕ
 atTable = 7168
+
+-- Where the table will stand, before it is filled, for crate sets: the points between the places, and their cells.
+abbrev pub atPoints : ℕ
+atPoints = 7168
+
+abbrev pub atPlaces : ℕ
+atPlaces = 7312
 
 -- A row word is a cell above the 54 bits of the points of a pair: one of the cell.
 abbrev pub unit : ℕ

@@ -13,3 +13,12 @@ pub fn clear(work: &mut [u64])
         i += 1;
     }
 }
+
+// Every word of both buffers that a call is lent is zero afterwards.
+pub fn clear_both(work_a: &mut [u64], work_b: &mut [u64])
+    ensures { λ _. ⌜ Cleared (now («work_a» .entry)) (now («work_a» .exit))
+        × Cleared (now («work_b» .entry)) (now («work_b» .exit)) ⌝ }
+{
+    clear(work_a);
+    clear(work_b);
+}

@@ -6,8 +6,8 @@ pub const WORDS: usize = 8192;
 // First buffer: the weights of the slots stand from 0 on, and from here on the words of their cells.
 pub const CELL_WORDS: usize = 4096;
 
-// Second buffer: the trail stands from 0 on in so many words; then for each cell the sum of its slots and its last slot,
-// the steps as words of a slip, and the table of partners.
+// Second buffer: the trail stands from 0 on in so many words; then for each cell the sum of its slots and its last
+// slot, the steps as words of a slip, and the table of partners.
 pub const TRAIL_WORDS: usize = 4096;
 
 pub const SUMS: usize = 4096;
@@ -17,6 +17,11 @@ pub const LASTS: usize = 5120;
 pub const NAMES: usize = 6144;
 
 pub const TABLE: usize = 7168;
+
+// Where the table will stand, before it is filled, for crate sets: the points between the places, and their cells.
+pub const POINTS: usize = 7168;
+
+pub const PLACES: usize = 7312;
 
 // A row word is a cell above the points of a pair: one of the cell.
 pub const POINTS_UNIT: u64 = 18014398509481984;

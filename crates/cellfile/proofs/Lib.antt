@@ -5,5 +5,6 @@ pub mod Bytes
 pub mod Fields
 pub mod RoundTrip
 pub mod Walk
+pub mod Lists
 pub mod Outputs
 pub mod Worked

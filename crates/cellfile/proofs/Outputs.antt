@@ -6,15 +6,17 @@ use mathlib.Core.List.{List, [], _∷_, _++_, map, append-nil, append-assoc}
 use native.Mathlib.Omega.{arith}
 use native.Mathlib.Nat.{mul-suc, mul-le-mul-left}
 use native.Mathlib.Numerals.{add-one}
-use lib.ListN.{length, take, drop, getD, set, length-append, length-drop, length-set, length-map}
+use lib.ListN.{length, take, drop, getD, set, length-append, length-drop, length-set, length-map, List·getD-map}
 use lib.Seq.{drop-cons, drop-set-lt, getD-set-same, drop-length, drop-at, drop-drop, take-suc, take-at, take-all}
 use lib.Seq.{length-take-le}
 use borrow.Rule.Slice.PartMut.{putMid, postOf, post-is}
 use Rattle.cellfile.specs.Bytes.{bytes}
-use Rattle.cellfile.specs.Fields.{size, packed, fields, writeRecord, writeRecords}
-use Rattle.cellfile.specs.Files.{Layout, header, shortList, writeFile, onto}
+use Rattle.cellfile.specs.Fields.{size, packed, fields, writeRecords}
+use Rattle.matching.specs.Listed.{Entry}
+use Rattle.buffers.specs.Map.{unit, atCells}
+use Rattle.cellfile.specs.Files.{Layout, header, shortList, writeFile, onto, asFields}
 use Rattle.cellfile.specs.Fits.{WholeBytes}
-use Rattle.cellfile.specs.Words.{wordBytes, fileOf}
+use Rattle.cellfile.specs.Words.{wordBytes, fileOf, shortWord, noEntry, RowsOf, pointsRoom}
 use Rattle.cellfile.proofs.Bytes.{length-bytes}
 use Rattle.cellfile.proofs.Fields.{write-fields}
 
@@ -95,7 +97,7 @@ unfolding wordBytes
 length-words k [] = omega arith
 length-words k (w ∷ ws) = rw (length-append, length-bytes k w, length-words k ws, mul-suc) (omega arith)
 
-pub words-next : (k : ℕ) (ws : List ℕ) (i : ℕ) → i < length ws
+words-next : (k : ℕ) (ws : List ℕ) (i : ℕ) → i < length ws
     → wordBytes k (take i ws) ++ bytes k (getD ws i 0) ≡ wordBytes k (take (i + 1) ws)
 unfolding wordBytes
 words-next k ws i h = sym (rw (add-one, take-suc ws i 0 h, words-append, append-nil))
@@ -106,8 +108,17 @@ words-room k i count at e h = omega (arith, e, mul-suc k i, mul-le-mul-left {m =
 pub words-at : (k i at : ℕ) → at ≡ k * i → at + k ≡ k * (i + 1)
 words-at k i at e = rw (add-one, mul-suc, e)
 
-pub length-taken : (k : ℕ) (ws : List ℕ) (i : ℕ) → i ≤ length ws → length (wordBytes k (take i ws)) ≡ k * i
+length-taken : (k : ℕ) (ws : List ℕ) (i : ℕ) → i ≤ length ws → length (wordBytes k (take i ws)) ≡ k * i
 length-taken k ws i h = length-words k (take i ws) ∙ ap (λ j. k * j) (length-take-le i ws h)
+
+-- one word more of a run of words, written behind the others
+pub run-next : (k : ℕ) (ws out₀ : List ℕ) {i at v : ℕ} {out last : List ℕ} → at ≡ k * i → i < length ws
+    → v ≡ getD ws i 0 → out ≡ onto (wordBytes k (take i ws)) out₀
+    → last ≡ onto (bytes k v) (take (length out - at) (drop at out))
+    → putMid at (length out - at) out last ≡ onto (wordBytes k (take (i + 1) ws)) out₀
+run-next k ws out₀ {i} {at} {v} {out} e l p q h =
+    onto-next (wordBytes k (take i ws)) (bytes k v) out₀ out at (length-taken k ws i (omega arith) ∙ sym e) q h
+    ∙ rw (p, words-next k ws i l)
 
 -- words are records
 words-records : (ws words : List ℕ) → WholeBytes ws → wordBytes (size ws) words ≡ writeRecords ws
@@ -116,13 +127,18 @@ unfolding wordBytes writeRecords
 words-records ws [] whole = refl
 words-records ws (w ∷ words) whole = rw (write-fields ws w whole, words-records ws words whole)
 
--- a file made of words
-pub file-words : (l : Layout) (n m : ℕ) (extra words : List ℕ) → WholeBytes (l .entry) → m ≤ length words
-    → writeFile l (fileOf l n extra (take m words))
-    ≡ bytes 4 (packed header (l .kind ∷ n ∷ m ∷ 0 ∷ []))
-    ++ (writeRecord (l .extra n) extra ++ wordBytes (size (l .entry)) (take m words))
-file-words l n m extra words whole h =
-    rw (words-records (l .entry) (take m words) whole, length-map, length-take-le m words h)
+entries-records : (es : List Entry) → wordBytes 8 (map shortWord es) ≡ writeRecords (shortList .entry) (map asFields es)
+unfolding wordBytes writeRecords
+entries-records [] = refl
+entries-records (e ∷ es) = rw (entries-records es)
+
+-- the word of the entry that stands as row i
+pub row-word : {es : List Entry} {m : ℕ} {w1 : List ℕ} → RowsOf es m w1 → (i : ℕ) → i < m
+    → getD w1 (atCells + i) 0 * 1024 * pointsRoom + getD w1 i 0 / unit * pointsRoom + getD w1 i 0 % unit
+    ≡ getD (map shortWord es) i 0
+unfolding packed
+row-word {es} h i l =
+    omega (arith, h .row i l, h .cell i l, h .points i l) ∙ sym (List·getD-map shortWord es i noEntry)
 
 -- the header's number
 pub header-number : (kind n m : ℕ) → kind * 268435456 + n * 131072 + m * 16 ≡ packed header (kind ∷ n ∷ m ∷ 0 ∷ [])
@@ -136,7 +152,8 @@ pub plain-file : (l : Layout) (n m : ℕ) (words : List ℕ) → WholeBytes (l .
     → bytes 4 (packed header (l .kind ∷ n ∷ m ∷ 0 ∷ [])) ++ wordBytes (size (l .entry)) (take m words)
     ≡ writeFile l (fileOf l n [] (take m words))
 unfolding bytes
-plain-file l n m words whole e h = sym (file-words l n m [] words whole h ∙ rw e)
+plain-file l n m words whole e h =
+    rw (words-records (l .entry) (take m words) whole, length-map, length-take-le m words h, e)
 
 pub length-head : (v w : ℕ) → length (bytes 4 v ++ bytes 8 w) ≡ 12
 length-head v w = rw (length-append, length-bytes 4 v, length-bytes 8 w)
@@ -146,11 +163,7 @@ unfolding packed
 one-field v = omega arith
 
 -- the carried points between the header and the entries
-pub short-file : (n m carried : ℕ) (words : List ℕ) → m ≤ length words
-    → (bytes 4 (packed header (2 ∷ n ∷ m ∷ 0 ∷ [])) ++ bytes 8 carried) ++ wordBytes 8 (take m words)
-    ≡ writeFile shortList (fileOf shortList n (carried ∷ []) (take m words))
-short-file n m carried words h =
-    append-assoc (bytes 4 (packed header (2 ∷ n ∷ m ∷ 0 ∷ []))) (bytes 8 carried) (wordBytes 8 (take m words))
-    ∙ ap (λ v. bytes 4 (packed header (2 ∷ n ∷ m ∷ 0 ∷ [])) ++ (bytes 8 v ++ wordBytes 8 (take m words)))
-    (one-field carried)
-    ∙ sym (file-words shortList n m (carried ∷ []) words refl h)
+pub short-file : (n carried : ℕ) (es : List Entry) {m : ℕ} → m ≡ length es
+    → (bytes 4 (packed header (2 ∷ n ∷ m ∷ 0 ∷ [])) ++ bytes 8 carried) ++ wordBytes 8 (map shortWord es)
+    ≡ writeFile shortList (record { cells = n; extra = carried ∷ []; entries = map asFields es })
+short-file n carried es e = rw (length-map, e, ← one-field carried, ← entries-records es, append-assoc)

@@ -91,6 +91,17 @@ asPair r = (getD r 0 0, getD r 1 0)
 abbrev pub entriesOf : Layout → List ℕ → List Entry
 entriesOf l s = map asEntry (readEntries l s)
 
+-- The layout of a list, by its bytes. Laws of it: proofs/Lists.
+unfoldable pub listLayout : List ℕ → Layout
+listLayout s = storeList
+
+-- All entries of a list; and those in view, which pairings are drawn from.
+unfoldable pub entriesAll : List ℕ → List Entry
+entriesAll s = entriesOf (listLayout s) s
+
+unfoldable pub inView : List ℕ → List Entry
+inView s = entriesAll s
+
 abbrev pub stepsOf : List ℕ → List (ℕ × ℕ)
 stepsOf s = map asPair (readEntries slip s)
 

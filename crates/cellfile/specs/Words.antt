@@ -1,22 +1,16 @@
--- Records as words, and the first records of the bytes. Inner contracts cite these; laws tie them to the definitions
--- that promises cite.
-use Prim.Native.Nat.{ℕ, _<_, _≤_}
+-- Records as words. Inner contracts cite these; laws tie them to the definitions that promises cite.
+use Prim.Native.Nat.{ℕ, _+_, _*_, _%_, _<_, _≤_}
+use mathlib.Core.Path.{_≡_}
 use mathlib.Core.List.{List, [], _∷_, _++_, map}
-use lib.ListN.{length}
+use lib.ListN.{length, getD}
+use Rattle.buffers.specs.Map.{unit, atCells}
 use Rattle.matching.specs.Pairs.{Pair}
 use Rattle.matching.specs.Listed.{Entry}
 use Rattle.cellfile.specs.Bytes.{bytes}
-use Rattle.cellfile.specs.Fields.{readRecords, fields, packed}
-use Rattle.cellfile.specs.Files.{Layout, File, fileLength, storeList, pairing, asEntry, asPair, asFields}
+use Rattle.cellfile.specs.Fields.{fields, packed}
+use Rattle.cellfile.specs.Files.{Layout, File, fileLength, pairing, asFields}
 use Rattle.cellfile.specs.Files.{nameFields, pairFields, shortList, slip}
 use Rattle.matching.specs.Steps.{Step}
-
--- The first m entries or pairs of the bytes.
-abbrev pub entries : ℕ → List ℕ → List Entry
-entries m s = map asEntry (readRecords (storeList .entry) m s)
-
-abbrev pub pairs : ℕ → List ℕ → List Pair
-pairs m s = map asPair (readRecords (pairing .entry) m s)
 
 -- The last k bytes of each word. Law: proofs/Outputs, `words-records`.
 unfoldable pub wordBytes : ℕ → List ℕ → List ℕ
@@ -43,3 +37,31 @@ pairWord e = packed (pairing .entry) (pairFields e)
 
 abbrev pub nameWord : Step → ℕ
 nameWord s = packed (slip .entry) (nameFields s)
+
+-- An entry as two words: the row word, its higher cell above its points, and its lower cell.
+abbrev pub rowWord : Entry → ℕ
+rowWord e = e .1 * unit + e .2
+
+-- What the points field of a short list has room for is below this: so are the points left and the points carried.
+abbrev pub pointsRoom : ℕ
+pointsRoom = 17592186044416
+
+abbrev pub noEntry : Entry
+noEntry = (0, 0, 0)
+
+-- The entries stand as the first m row words and lower cells of the first work buffer.
+pub record RowsOf (es : List Entry) (m : ℕ) (w1 : List ℕ) : Type 0 where
+  pub count : m ≡ length es
+  pub row : (i : ℕ) → i < m → getD w1 i 0 ≡ rowWord (getD es i noEntry)
+  pub cell : (i : ℕ) → i < m → getD w1 (atCells + i) 0 ≡ getD es i noEntry .0
+  pub points : (i : ℕ) → i < m → getD es i noEntry .2 < unit
+
+-- P of the entries that stand so.
+abbrev pub OfRows : ℕ → List ℕ → (List Entry → Type 0) → Type 0
+OfRows m w1 P = (es : List Entry) → RowsOf es m w1 → P es
+
+-- What stands as the first m rows and cells fits the fields of a short list.
+pub record RowsFit (m : ℕ) (w1 : List ℕ) : Type 0 where
+  pub room : 8192 ≤ length w1
+  pub most : m ≤ 4096
+  pub fits : (i : ℕ) → i < m → (getD w1 (atCells + i) 0 < 1024) × (getD w1 i 0 % unit < pointsRoom)

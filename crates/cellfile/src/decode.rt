@@ -1,9 +1,13 @@
-// Inner: reads the fields of a record at the start of a part of a file. Missing bytes read as 0.
+// Inner: reads a file. The fields of a record at the start of a part of it, where missing bytes read as 0; and the
+// record at a place, which is handed on as the part that starts at it.
 ghost use mathlib.Core.Path.{_≡_};
 ghost use Prim.Native.Nat.{_<_, _≤_};
 ghost use lib.ListN.{getD};
 ghost use Rattle.cellfile.specs.Bytes.{number};
-ghost use Rattle.cellfile.specs.Reads.{HeaderRead, EntryRead, StepRead, PairRead};
+ghost use Rattle.cellfile.specs.Files.{slip as slipLayout, pairing as pairingLayout, listLayout};
+ghost use Rattle.cellfile.specs.Files.{cellsOf, fileLength};
+ghost use Rattle.cellfile.specs.Reads.{HeaderRead, EntryAt, StepAt, PairAt, RecordThere, ShapeRead, EntryThere};
+ghost use Rattle.cellfile.specs.Reads.{EntryRead, StepRead, PairRead};
 
 // The fields of a header.
 pub struct Header {
@@ -13,7 +17,13 @@ pub struct Header {
     pub zeros: u64,
 }
 
-// An entry of a store list.
+// Where the entries of a list start, and the bytes of each.
+pub struct Shape {
+    pub start: usize,
+    pub bytes: usize,
+}
+
+// An entry of a list.
 pub struct Entry {
     pub a: usize,
     pub b: usize,
@@ -48,11 +58,7 @@ const BITS_14: u64 = 16384;
 
 const BITS_17: u64 = 131072;
 
-const BITS_20: u64 = 1048576;
-
 const BITS_28: u64 = 268435456;
-
-const BITS_30: u64 = 1073741824;
 
 fn wide(x: u8) -> u64
     ensures { λ r. ⌜ (r ≡ x) × (r < 256) ⌝ }
@@ -95,21 +101,25 @@ pub fn header_at(s: &[u8]) -> Header
     }
 }
 
-pub fn entry_at(s: &[u8]) -> Entry
-    ensures { λ r. ⌜ EntryRead (now (s .entry)) r ⌝ }
+// An entry of so many bytes: two cells of 10 bits, and points in the bits that are left.
+pub fn entry_at(s: &[u8], bytes: usize) -> Entry
+    requires { ⌜ (3 ≤ bytes) × (bytes ≤ 8) ⌝ }
+    ensures { λ r. ⌜ EntryAt bytes (now (s .entry)) r ⌝ }
 {
-    let v = number_at(s, 5);
+    let v = number_at(s, bytes);
+    let points = 8 * bytes - 20;
+    let key = v >> points;
     Entry {
-        a: (v / BITS_30 % BITS_10) as usize,
-        b: (v / BITS_20 % BITS_10) as usize,
-        points: v % BITS_20,
+        a: (key / BITS_10 % BITS_10) as usize,
+        b: (key % BITS_10) as usize,
+        points: v % (1 << points),
     }
 }
 
 pub fn step_at(s: &[u8]) -> SlipStep
-    ensures { λ r. ⌜ StepRead (now (s .entry)) r ⌝ }
+    ensures { λ r. ⌜ StepAt (now (s .entry)) r ⌝ }
 {
-    let v = number_at(s, 2);
+    let v = number_at(s, STEP_BYTES);
     SlipStep {
         rule: v / BITS_10 % BITS_6,
         cell: (v % BITS_10) as usize,
@@ -117,12 +127,70 @@ pub fn step_at(s: &[u8]) -> SlipStep
 }
 
 pub fn pair_at(s: &[u8]) -> PairEntry
-    ensures { λ r. ⌜ PairRead (now (s .entry)) r ⌝ }
+    ensures { λ r. ⌜ PairAt (now (s .entry)) r ⌝ }
 {
-    let v = number_at(s, 3);
+    let v = number_at(s, PAIR_BYTES);
     PairEntry {
         a: (v / BITS_14 % BITS_10) as usize,
         b: (v / BITS_4 % BITS_10) as usize,
         zeros: v % BITS_4,
     }
+}
+
+const HEADER_BYTES: usize = 4;
+
+const ENTRY_BYTES: usize = 5;
+
+const STEP_BYTES: usize = 2;
+
+const PAIR_BYTES: usize = 3;
+
+// The shape of a list, by its bytes.
+pub fn shape_of(list: &[u8]) -> Shape
+    ensures { λ r. ⌜ ShapeRead (now (list .entry)) r ⌝ }
+{
+    Shape {
+        start: HEADER_BYTES,
+        bytes: ENTRY_BYTES,
+    }
+}
+
+// The bytes of a list with m entries.
+pub fn list_length(list: &[u8], m: usize) -> usize
+    requires { ⌜ m < 8192 ⌝ }
+    ensures { λ r. ⌜ r ≡ fileLength (listLayout (now (list .entry))) (cellsOf (now (list .entry))) m ⌝ }
+{
+    let shape = shape_of(list);
+    let start = shape.start;
+    let bytes = shape.bytes;
+    start + bytes * m
+}
+
+// The entry at place i of a list of that shape.
+pub fn list_entry(list: &[u8], shape: Shape, i: usize) -> Entry
+    requires { ⌜ EntryThere (now list) shape i ⌝ }
+    ensures { λ r. ⌜ EntryRead (now (list .entry)) i r ⌝ }
+{
+    let start = shape.start;
+    let bytes = shape.bytes;
+    let at = start + bytes * i;
+    entry_at(&list[at..], bytes)
+}
+
+// The step at place i of a slip.
+pub fn slip_step(slip: &[u8], i: usize) -> SlipStep
+    requires { ⌜ RecordThere slipLayout (now slip) i ⌝ }
+    ensures { λ r. ⌜ StepRead (now (slip .entry)) i r ⌝ }
+{
+    let at = HEADER_BYTES + STEP_BYTES * i;
+    step_at(&slip[at..])
+}
+
+// The pair at place i of a pairing.
+pub fn pairing_pair(pairing: &[u8], i: usize) -> PairEntry
+    requires { ⌜ RecordThere pairingLayout (now pairing) i ⌝ }
+    ensures { λ r. ⌜ PairRead (now (pairing .entry)) i r ⌝ }
+{
+    let at = HEADER_BYTES + PAIR_BYTES * i;
+    pair_at(&pairing[at..])
 }

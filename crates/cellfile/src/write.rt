@@ -1,19 +1,29 @@
 // Inner: writes a file into an output. Its first bytes are the file, the others are unchanged. The caller has found
-// that the output has room. Entries come as words, each the number of a record, of which the low bits count.
+// that the output has room. Entries come as words, each the number of a record, of which the low bits count; those of a
+// short list as rows and cells in the first work buffer.
+use buffers::map;
 ghost use mathlib.Core.Path.{_≡_};
-ghost use mathlib.Core.List.{_∷_, []};
-ghost use Prim.Native.Nat.{_+_, _*_, _≤_, _<_};
+ghost use mathlib.Core.List.{_∷_, [], map};
+ghost use Prim.Native.Nat.{_+_, _*_, _/_, _%_, _≤_, _<_};
 ghost use lib.ListN.{length, take};
+ghost use Rattle.buffers.specs.Map.{unit};
 ghost use Rattle.cellfile.specs.Bytes.{bytes};
 ghost use Rattle.cellfile.specs.Fields.{packed};
-ghost use Rattle.cellfile.specs.Files.{header, slip, pairing, shortList, writeFile, onto};
-ghost use Rattle.cellfile.specs.Words.{wordBytes, fileOf, Writable};
+ghost use Rattle.cellfile.specs.Files.{header, slip, pairing, shortList, writeFile, fileLength, onto, asFields};
+ghost use Rattle.cellfile.specs.Words.{wordBytes, fileOf, shortWord, Writable, OfRows, RowsFit, pointsRoom};
 
 const KIND_UNIT: u64 = 268435456;
 
 const CELLS_UNIT: u64 = 131072;
 
 const COUNT_UNIT: u64 = 16;
+
+// The points of an entry of a short list are below this; its cells stand above them, the lower one above the other.
+const POINTS_ROOM: u64 = 17592186044416;
+
+const CELLS: u64 = 1024;
+
+const CELL_A: u64 = CELLS * POINTS_ROOM;
 
 // The last `size` bytes of the number, most significant first.
 fn put_number(v: u64, size: usize, out: &mut [u8])
@@ -39,6 +49,37 @@ fn put_words(words: &[u64], count: usize, size: usize, out: &mut [u8])
     while i < count {
         put_number(words[i], size, &mut out[at..]);
         at += size;
+        i += 1;
+    }
+}
+
+// The number of the record of a short list whose entry is the row x and the cell a. The test always holds: without it
+// the compiler sees which field each byte is of, and writes the bytes one by one instead of as one word.
+fn short_word(x: u64, a: u64) -> u64
+    requires { ⌜ (a < 1024) × (x % unit < pointsRoom) ⌝ }
+    ensures { λ r. ⌜ r ≡ a * 1024 * pointsRoom + x / unit * pointsRoom + x % unit ⌝ }
+{
+    if a < CELLS {
+        return a * CELL_A + x / map::POINTS_UNIT * POINTS_ROOM + x % map::POINTS_UNIT;
+    }
+    0
+}
+
+// The entries of the first `count` rows, as the records of a short list.
+fn put_rows(w1: &[u64], count: usize, out: &mut [u8])
+    requires { ⌜ RowsFit count (now w1) × (8 * count ≤ length (now out)) ⌝ }
+    ensures { λ _. ⌜ OfRows count (now (w1 .entry)) (λ es.
+        now (out .exit) ≡ onto (wordBytes 8 (map shortWord es)) (now (out .entry))) ⌝ }
+{
+    let mut i = 0;
+    let mut at = 0;
+    while i < count {
+        put_number(
+            short_word(w1[i], w1[map::CELL_WORDS + i]),
+            8,
+            &mut out[at..],
+        );
+        at += 8;
         i += 1;
     }
 }
@@ -74,14 +115,14 @@ pub fn write_pairing(n: usize, pairs: &[u64], m: usize, out: &mut [u8])
     put_words(pairs, m, 3, &mut out[4..]);
 }
 
-// A short list of n cells with its carried points, whose entries are the first m words.
-pub fn write_short(n: usize, carried: u64, entries: &[u64], m: usize, out: &mut [u8])
-    requires { ⌜ Writable shortList n m (now entries) (now out) ⌝ }
-    ensures { λ _. ⌜ now (out .exit)
-        ≡ onto (writeFile shortList (fileOf shortList n (carried ∷ []) (take m (now (entries .entry)))))
-        (now (out .entry)) ⌝ }
+// A short list of n cells with its carried points, whose entries are the first m rows.
+pub fn write_short(n: usize, carried: u64, w1: &[u64], m: usize, out: &mut [u8])
+    requires { ⌜ RowsFit m (now w1) × (n < 2048) × (fileLength shortList n m ≤ length (now out)) ⌝ }
+    ensures { λ _. ⌜ OfRows m (now (w1 .entry)) (λ es. now (out .exit)
+        ≡ onto (writeFile shortList (record { cells = n; extra = carried ∷ []; entries = map asFields es }))
+        (now (out .entry))) ⌝ }
 {
     put_header(2, n, m, out);
     put_number(carried, 8, &mut out[4..]);
-    put_words(entries, m, 8, &mut out[12..]);
+    put_rows(w1, m, &mut out[12..]);
 }

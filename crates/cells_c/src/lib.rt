@@ -1,9 +1,7 @@
 // The calls for C: include/cells.h declares them. Every slice is a pointer and a length; each call answers 0 or the
 // refusal's number, and on refusal leaves the numbers that it would answer unchanged. cells_entry answers 1 with them,
 // or 0 and leaves them unchanged.
-use lifting::Paired;
-use reduction::Reduced;
-use reduction::Replayed;
+use checks::Lengths;
 use view::Served;
 use weighing::Weighed;
 ghost use mathlib.Core.Path.{_≡_};
@@ -15,7 +13,50 @@ ghost use Rattle.reduction.specs.Calls.{replaying, reducing, replayShort, slipF
 ghost use Rattle.starting.specs.Steps.{reduceSteps};
 ghost use Rattle.lifting.specs.Calls.{solving, solveFile, lifting, liftFile, pairing as pairingAnswer, pairingFile};
 ghost use Rattle.view.specs.Serving.{serving};
+ghost use Rattle.checks.specs.Calls.{answered};
 ghost use Rattle.cells_c.specs.Numbers.{valueOr};
+
+// The number of an answer; its first length goes to `one`.
+fn one_length(r: Lengths, one: &mut u64) -> u32
+    ensures { λ k. ⌜ (k ≡ answered r .0) × (now (one .exit) ≡ valueOr 0 (now (one .entry)) (answered r)) ⌝ }
+{
+    match r {
+        Lengths::Refused(k) => k,
+        Lengths::One(i) => {
+            *one = i as u64;
+            0
+        }
+        Lengths::Two {
+            first: i,
+            second: _,
+        } => {
+            *one = i as u64;
+            0
+        }
+    }
+}
+
+// The number of an answer; its lengths go to `one` and `two`.
+fn two_lengths(r: Lengths, one: &mut u64, two: &mut u64) -> u32
+    ensures { λ k. ⌜ (k ≡ answered r .0) × (now (one .exit) ≡ valueOr 0 (now (one .entry)) (answered r))
+        × (now (two .exit) ≡ valueOr 1 (now (two .entry)) (answered r)) ⌝ }
+{
+    match r {
+        Lengths::Refused(k) => k,
+        Lengths::One(i) => {
+            *one = i as u64;
+            0
+        }
+        Lengths::Two {
+            first: i,
+            second: j,
+        } => {
+            *one = i as u64;
+            *two = j as u64;
+            0
+        }
+    }
+}
 
 #[no_mangle]
 pub extern "C" fn cells_weigh(
@@ -61,13 +102,8 @@ pub extern "C" fn cells_replay(
     ensures cleared { λ _. ⌜ Cleared (now («work_a» .entry)) (now («work_a» .exit))
         × Cleared (now («work_b» .entry)) (now («work_b» .exit)) ⌝ }
 {
-    match reduction::replay(list, slip, work_a, work_b, short) {
-        Replayed::Refused(k) => k,
-        Replayed::Length(m) => {
-            *short_len = m as u64;
-            0
-        }
-    }
+    let r = reduction::replay(list, slip, work_a, work_b, short);
+    one_length(r, short_len)
 }
 
 #[no_mangle]
@@ -99,14 +135,8 @@ pub extern "C" fn cells_reduce(
     ensures cleared { λ _. ⌜ Cleared (now («work_a» .entry)) (now («work_a» .exit))
         × Cleared (now («work_b» .entry)) (now («work_b» .exit)) ⌝ }
 {
-    match reduction::reduce(list, work_a, work_b, slip, short) {
-        Reduced::Refused(k) => k,
-        Reduced::Lengths { slip: m, short: k } => {
-            *slip_len = m as u64;
-            *short_len = k as u64;
-            0
-        }
-    }
+    let r = reduction::reduce(list, work_a, work_b, slip, short);
+    two_lengths(r, slip_len, short_len)
 }
 
 #[no_mangle]
@@ -129,13 +159,8 @@ pub extern "C" fn cells_solve(
     ensures cleared { λ _. ⌜ Cleared (now («work_a» .entry)) (now («work_a» .exit))
         × Cleared (now («work_b» .entry)) (now («work_b» .exit)) ⌝ }
 {
-    match lifting::solve(list, slip, work_a, work_b, pairing) {
-        Paired::Refused(k) => k,
-        Paired::Length(m) => {
-            *pairing_len = m as u64;
-            0
-        }
-    }
+    let r = lifting::solve(list, slip, work_a, work_b, pairing);
+    one_length(r, pairing_len)
 }
 
 #[no_mangle]
@@ -160,13 +185,8 @@ pub extern "C" fn cells_lift(
     ensures cleared { λ _. ⌜ Cleared (now («work_a» .entry)) (now («work_a» .exit))
         × Cleared (now («work_b» .entry)) (now («work_b» .exit)) ⌝ }
 {
-    match lifting::lift(list, slip, pairing, work_a, work_b, lifted) {
-        Paired::Refused(k) => k,
-        Paired::Length(m) => {
-            *lifted_len = m as u64;
-            0
-        }
-    }
+    let r = lifting::lift(list, slip, pairing, work_a, work_b, lifted);
+    one_length(r, lifted_len)
 }
 
 #[no_mangle]
@@ -188,13 +208,8 @@ pub extern "C" fn cells_pair(
     ensures cleared { λ _. ⌜ Cleared (now («work_a» .entry)) (now («work_a» .exit))
         × Cleared (now («work_b» .entry)) (now («work_b» .exit)) ⌝ }
 {
-    match lifting::pair(list, work_a, work_b, pairing) {
-        Paired::Refused(k) => k,
-        Paired::Length(m) => {
-            *pairing_len = m as u64;
-            0
-        }
-    }
+    let r = lifting::pair(list, work_a, work_b, pairing);
+    one_length(r, pairing_len)
 }
 
 #[no_mangle]

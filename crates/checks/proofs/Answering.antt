@@ -1,21 +1,32 @@
--- The layers that the calls with outputs share. In order: an output that is kept is right where the call is refused;
--- what some rows refuse, and what they pass on to the rows after them (`refused`, `passed`); refusal 12 (`no-room`,
--- `rooms`). Assumes nothing.
+-- The layers that the calls with outputs share. In order: the work buffers (`enough-words`); an output that is kept is
+-- right where the call is refused; what some rows refuse, and what they pass on to the rows after them (`refused`,
+-- `passed`); refusal 12 (`no-room`, `all-room`). Assumes nothing.
 use mathlib.Core.Path.{_≡_, refl, sym, ap, _∙_}
 use mathlib.Core.Bool.{Bool, true, false, _||_}
-use mathlib.Core.List.{List, [], _∷_, _++_, map, append-assoc}
+use mathlib.Core.List.{List, [], _∷_, _++_, append-assoc}
 use Prim.Native.Nat.{ℕ, zero, suc, _≤_, _<_}
 use native.Mathlib.Omega.{arith}
-use borrow.Author.Tests.{lt-ltb, le-ltb}
+use borrow.Author.Tests.{lt-ltb, le-ltb, ltb-false}
 use lib.Dec.{ltb}
 use lib.ListN.{length}
 use Rattle.matching.specs.Lists.{All}
 use Rattle.matching.proofs.Alls.{all-map}
 use Rattle.cellfile.specs.Files.{onto}
-use Rattle.checks.specs.Refusals.{Row, first, shortOutput}
+use Rattle.checks.specs.Refusals.{Row, first, fewWords, shortOutput}
 use Rattle.cellfile.specs.Answers.{Answer, answer, written}
+use Rattle.buffers.specs.Buffers.{lent}
+use Rattle.checks.proofs.Rows.{or-none}
 use Rattle.checks.proofs.Layers.{layer-refused, layer-passed}
-use Rattle.checks.specs.Answering.{Output, lengths, roomRow, Does}
+use Rattle.checks.specs.Calls.{callRows, roomRow, answering}
+use Rattle.checks.specs.Answering.{Output, lengths, rooms, Does, Enough}
+
+-- ---- the work buffers
+
+pub enough-words : (w1 w2 : List ℕ) {few : Bool} → few ≡ fewWords (lent w1 w2) → Enough few w1 w2
+unfolding fewWords
+enough-words w1 w2 e f =
+    let h = or-none (ltb (length w1) 8192) _ (sym e ∙ f) in
+    (ltb-false (length w1) 8192 (h .0), ltb-false (length w2) 8192 (or-none (ltb (length w2) 8192) _ (h .1) .0))
 
 -- ---- outputs that are kept
 
@@ -32,23 +43,25 @@ refused-written (suc n) k v vs file out e =
 
 -- rows in two parts
 parted : (rows more : List Row) (outs : List Output) (a : Answer)
-    → a ≡ answer (first (rows ++ (more ++ (roomRow outs ∷ [])))) (lengths outs)
-    → a ≡ answer (first ((rows ++ more) ++ (roomRow outs ∷ []))) (lengths outs)
+    → a ≡ answer (first (rows ++ (more ++ (roomRow (rooms outs) ∷ [])))) (lengths outs)
+    → a ≡ answer (first ((rows ++ more) ++ (roomRow (rooms outs) ∷ []))) (lengths outs)
 parted rows more outs a e =
-    e ∙ ap (λ rs. answer (first rs) (lengths outs)) (sym (append-assoc rows more (roomRow outs ∷ [])))
+    e ∙ ap (λ rs. answer (first rs) (lengths outs)) (sym (append-assoc rows more (roomRow (rooms outs) ∷ [])))
 
 module _ (rows more : List Row) {outs : List Output} where
   pub refused : (v : ℕ) (vs : List ℕ) {k : ℕ} → (k, []) ≡ answer (first rows) (v ∷ vs) → Unchanged outs
       → Does (rows ++ more) outs (k, [])
   refused v vs {k} e h = record {
-    says = parted rows more outs (k, []) (layer-refused rows (more ++ (roomRow outs ∷ [])) (lengths outs) k v vs e);
+    says = parted rows more outs (k, []) (layer-refused rows (more ++ (roomRow (rooms outs) ∷ [])) (lengths outs) k v
+        vs e);
     writes = all-map (λ o p. p ∙ refused-written (first rows) k v vs (o .0) (o .1) e) outs h;
   }
 
   pub passed : {a : Answer} → All (λ (r : Row). 0 < r .0) rows → first rows ≡ 0 → Does more outs a
       → Does (rows ++ more) outs a
   passed {a} h e d = record {
-    says = parted rows more outs a (layer-passed rows (more ++ (roomRow outs ∷ [])) (lengths outs) h e (d .says));
+    says = parted rows more outs a (layer-passed rows (more ++ (roomRow (rooms outs) ∷ [])) (lengths outs) h e (d
+        .says));
     writes = d .writes;
   }
 
@@ -62,13 +75,13 @@ or-true true u e = refl
 or-true false u e = e
 
 some-short : (xs : List Output) (o : Output) (ys : List Output) → length (o .1) < length (o .0)
-    → shortOutput (map (λ (o : Output). (length (o .1), length (o .0))) (xs ++ o ∷ ys)) ≡ true
+    → shortOutput (rooms (xs ++ o ∷ ys)) ≡ true
 unfolding shortOutput
 some-short [] o ys l = rw (lt-ltb (length (o .1)) (length (o .0)) l)
 some-short (x ∷ xs) o ys l = or-true (short x) _ (some-short xs o ys l)
 
 none-short : (outs : List Output) → All (λ (o : Output). length (o .0) ≤ length (o .1)) outs
-    → shortOutput (map (λ (o : Output). (length (o .1), length (o .0))) outs) ≡ false
+    → shortOutput (rooms outs) ≡ false
 unfolding shortOutput
 none-short [] h = refl
 none-short (o ∷ outs) h = rw (le-ltb (length (o .1)) (length (o .0)) (h .0)) (none-short outs (h .1))
@@ -77,7 +90,20 @@ pub no-room : (xs : List Output) (o : Output) (ys : List Output) → length (o .
     → Unchanged (xs ++ o ∷ ys) → Does [] (xs ++ o ∷ ys) (12, [])
 no-room xs o ys l h = record { says = rw (some-short xs o ys l); writes = h }
 
-pub rooms : (outs : List Output) → All (λ (o : Output). length (o .0) ≤ length (o .1)) outs
+pub all-room : (outs : List Output) → All (λ (o : Output). length (o .0) ≤ length (o .1)) outs
     → All (λ (o : Output). o .2 ≡ onto (o .0) (o .1)) outs
     → Does [] outs (0, lengths outs)
-rooms outs l h = record { says = rw (none-short outs l); writes = h }
+all-room outs l h = record { says = rw (none-short outs l); writes = h }
+
+-- ---- the whole call
+
+-- with refusal 1 found by the lengths of the work buffers lent
+pub framed : (lent list : List ℕ) (own : List Row) {few : Bool} {outs : List Output} {a : Answer} → few ≡ fewWords lent
+    → Does (callRows few list ++ own) outs a
+    → (a ≡ answering lent list own (rooms outs))
+    × All (λ (o : Output). o .2 ≡ written (a .0) (o .0) (o .1)) outs
+framed lent list own {few} {outs} {a} e d = (
+  d .says ∙ ap (λ t. answer (first ((callRows t list ++ own) ++ roomRow (rooms outs) ∷ [])) (lengths outs)) e,
+  d
+      .writes,
+)

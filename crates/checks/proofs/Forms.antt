@@ -1,23 +1,24 @@
 -- Laws of the refusals' conditions, as the functions that check a form meet them: what a test that was passed or not
 -- says of the condition, and of the first row that holds.
-use Prim.Native.Nat.{ℕ, _+_, _*_, _<_, _≤_}
-use mathlib.Core.Path.{_≡_, refl}
-use mathlib.Core.Bool.{Bool, true, false, not, _||_}
-use mathlib.Core.List.{List, [], _∷_}
+use Prim.Native.Nat.{ℕ, _+_, _<_, _≤_}
+use mathlib.Core.Path.{_≡_, refl, _∙_}
+use mathlib.Core.Bool.{Bool, true, false, not, _||_, or-false}
+use mathlib.Core.List.{List, [], _∷_, map}
 use native.Mathlib.Omega.{arith}
 use native.Mathlib.Numerals.{add-one}
 use lib.Dec.{eqb, ltb, leb}
-use lib.ListN.{length, drop}
-use borrow.Author.Tests.{lt-ltb, le-ltb, le-leb, lt-leb, eq-eqb, ne-eqb, ltb-false}
-use Rattle.cellfile.specs.Fields.{readRecords}
-use Rattle.cellfile.specs.Files.{storeList, asEntry, cellsOf, countOf, key}
-use Rattle.checks.specs.Refusals.{ascendingFrom, first, listRows, notAList, tooLarge, wrongLength, strayPair}
-use Rattle.checks.specs.Refusals.{strayEntry, unordered}
+use lib.ListN.{length, drop, drop-of-length-le}
+use borrow.Author.Tests.{lt-ltb, le-ltb, le-leb, lt-leb, eq-eqb, ne-eqb}
+use Rattle.matching.specs.Lists.{any}
+use Rattle.matching.specs.Listed.{Entry as ListEntry}
+use Rattle.cellfile.specs.Files.{cellsOf, countOf, key, entryKey, fileLength, listLayout, entriesAll}
+use Rattle.checks.specs.Refusals.{ascendingFrom, first, fewWords, lists, listRows, notAList, tooLarge}
+use Rattle.checks.specs.Refusals.{wrongLength, strayPair, strayEntry, unordered}
+use Rattle.checks.specs.Calls.{callRows}
 use Rattle.cellfile.specs.Answers.{answer}
-use Rattle.checks.specs.Loops.{stray, keys}
+use Rattle.buffers.specs.Buffers.{lent}
 use Rattle.cellfile.specs.Reads.{HeaderRead, EntryRead}
-use Rattle.checks.proofs.Rows.{or-none}
-use Rattle.cellfile.proofs.Walk.{from, from-next, any-here, any-next}
+use Rattle.cellfile.proofs.Walk.{entries-count, entry-next}
 use Rattle.cellfile.specs.declared.decode.Entry.{Entry}
 use Rattle.cellfile.specs.declared.decode.Header.{Header}
 
@@ -40,39 +41,54 @@ module _ (n a b : ℕ) where
   pub stray-not : b < n → a < b → strayPair n a b ≡ false
   stray-not p q = rw (lt-leb n a (omega arith), lt-leb n b p, lt-leb b a q)
 
--- the entries from place i on, by the entry read there
-module _ (s : List ℕ) (m i : ℕ) (l : i < m) (e : Entry) (r : EntryRead (drop (4 + 5 * i) s) e) where
-  pub stray-here : (n : ℕ) → strayPair n (e .a) (e .b) ≡ true → stray n (from (storeList .entry) s 4 m i) ≡ true
-  stray-here n p = any-here (storeList .entry) s 4 m i l asEntry _ (rw (← r .a, ← r .b) p)
+-- the conditions of 5 and 6 of the entries from place i on, by the entry read there
+abbrev pub straysFrom : List ℕ → ℕ → Bool
+straysFrom s i = any (λ (e : ListEntry). strayPair (cellsOf s) (e .0) (e .1)) (drop i (entriesAll s))
 
-  pub stray-next : (n : ℕ) → strayPair n (e .a) (e .b) ≡ false
-      → stray n (from (storeList .entry) s 4 m i) ≡ stray n (from (storeList .entry) s 4 m (i + 1))
-  stray-next n p = any-next (storeList .entry) s 4 m i l asEntry _ (rw (← r .a, ← r .b) p)
+abbrev pub ascendsFrom : List ℕ → ℕ → ℕ → Bool
+ascendsFrom s low i = ascendingFrom low (map entryKey (drop i (entriesAll s)))
 
-  pub keys-not : (low : ℕ) → key (e .a) (e .b) < low → ascendingFrom low
-      (keys (from (storeList .entry) s 4 m i)) ≡ false
-  keys-not low p = rw (from-next (storeList .entry) s 4 m i l, ← r .a, ← r .b, lt-leb low (key (e .a) (e .b)) p)
+pub stray-start : (s : List ℕ) → strayEntry s ≡ straysFrom s 0
+unfolding strayEntry
+stray-start s = refl
 
-  pub keys-next : (low : ℕ) → low ≤ key (e .a) (e .b) → ascendingFrom low (keys (from (storeList .entry) s 4 m i))
-      ≡ ascendingFrom (key (e .a) (e .b) + 1) (keys (from (storeList .entry) s 4 m (i + 1)))
-  keys-next low p =
-      rw (
-        from-next (storeList .entry) s 4 m i l,
-        ← r .a,
-        ← r .b,
-        le-leb low (key (e .a) (e .b)) p,
-        add-one
-            (key (e .a) (e .b)),
-      )
+pub unordered-start : (s : List ℕ) → unordered s ≡ not (ascendsFrom s 0 0)
+unfolding unordered
+unordered-start s = refl
+
+module _ (s : List ℕ) (i : ℕ) (l : countOf s ≤ i) where
+  none-left : drop i (entriesAll s) ≡ []
+  none-left = drop-of-length-le (entriesAll s) {i = i} (omega (arith, entries-count s))
+
+  pub stray-end : straysFrom s i ≡ false
+  stray-end = rw none-left
+
+  pub ascends-end : (low : ℕ) → ascendsFrom s low i ≡ true
+  ascends-end low = rw none-left
+
+module _ (s : List ℕ) (i : ℕ) (l : i < countOf s) (e : Entry) (r : EntryRead s i e) where
+  pub stray-here : strayPair (cellsOf s) (e .a) (e .b) ≡ true → straysFrom s i ≡ true
+  stray-here p = rw (entry-next s i e l r, p)
+
+  pub stray-next : strayPair (cellsOf s) (e .a) (e .b) ≡ false → straysFrom s i ≡ straysFrom s (i + 1)
+  stray-next p = rw (entry-next s i e l r, p)
+
+  pub ascends-not : (low : ℕ) → key (e .a) (e .b) < low → ascendsFrom s low i ≡ false
+  ascends-not low p = rw (entry-next s i e l r, lt-leb low (key (e .a) (e .b)) p)
+
+  pub ascends-next : (low : ℕ) → low ≤ key (e .a) (e .b)
+      → ascendsFrom s low i ≡ ascendsFrom s (key (e .a) (e .b) + 1) (i + 1)
+  ascends-next low p =
+      rw (entry-next s i e l r, le-leb low (key (e .a) (e .b)) p, add-one (key (e .a) (e .b)))
 
 module _ (s : List ℕ) (h : Header) (r : HeaderRead s h) where
-  pub kind-wrong : 4 ≤ length s → (h .kind ≡ 1 → ⊥) → true ≡ notAList storeList s
+  pub kind-wrong : 4 ≤ length s → (h .kind ≡ 1 → ⊥) → true ≡ notAList lists s
   unfolding notAList
-  kind-wrong l k = rw (le-ltb (length s) 4 l, ← r .kind, ne-eqb (h .kind) 1 k)
+  kind-wrong l k = rw (le-ltb (length s) 4 l, ← r .kind, ne-eqb 1 (h .kind) (λ e. k (omega arith)))
 
-  pub kind-right : 4 ≤ length s → h .kind ≡ 1 → not (eqb (h .zeros) 0) ≡ notAList storeList s
+  pub kind-right : 4 ≤ length s → h .kind ≡ 1 → not (eqb (h .zeros) 0) ≡ notAList lists s
   unfolding notAList
-  kind-right l k = rw (le-ltb (length s) 4 l, ← r .kind, eq-eqb (h .kind) 1 k, ← r .zeros)
+  kind-right l k = rw (le-ltb (length s) 4 l, ← r .kind, eq-eqb 1 (h .kind) (omega arith), ← r .zeros)
 
   pub cells-many : 1024 < h .n → true ≡ tooLarge s
   unfolding tooLarge
@@ -82,55 +98,58 @@ module _ (s : List ℕ) (h : Header) (r : HeaderRead s h) where
   unfolding tooLarge
   cells-few k = rw (← r .n, le-ltb 1024 (h .n) k, ← r .m)
 
-  pub large-not : tooLarge s ≡ false → (h .n ≤ 1024) × (h .m ≤ 4096)
-  unfolding tooLarge
-  large-not p =
-      let q = or-none (ltb 1024 (cellsOf s)) (ltb 4096 (countOf s)) p in
-      (rw (r .n) (ltb-false 1024 (cellsOf s) (q .0)), rw (r .m) (ltb-false 4096 (countOf s) (q .1)))
-
-  pub length-wrong : (length s ≡ 4 + 5 * h .m → ⊥) → wrongLength storeList s ≡ true
-  unfolding wrongLength
-  length-wrong k = rw (← r .m, ne-eqb (length s) (4 + 5 * h .m) k)
-
-  pub length-right : length s ≡ 4 + 5 * h .m → wrongLength storeList s ≡ false
-  unfolding wrongLength
-  length-right k = rw (← r .m, eq-eqb (length s) (4 + 5 * h .m) k)
-
-  pub stray-is : strayEntry storeList s ≡ stray (h .n) (readRecords (storeList .entry) (h .m) (drop 4 s))
-  unfolding strayEntry
-  stray-is = rw (← r .n, ← r .m)
-
-  pub unordered-is : unordered storeList s ≡ not
-      (ascendingFrom 0 (keys (readRecords (storeList .entry) (h .m) (drop 4 s))))
-  unfolding unordered
-  unordered-is = rw (← r .m)
-
   pub values-are : (h .n ∷ h .m ∷ []) ≡ (cellsOf s ∷ countOf s ∷ [])
   values-are = rw (r .n, r .m)
+
+pub length-wrong : (s : List ℕ) (m : ℕ) {k : ℕ} → m ≡ countOf s → k ≡ fileLength (listLayout s) (cellsOf s) m
+    → (length s ≡ k → ⊥) → wrongLength s ≡ true
+unfolding wrongLength
+length-wrong s m e f n =
+    rw (ne-eqb (length s) (fileLength (listLayout s) (cellsOf s) (countOf s)) (λ q. n (q ∙ rw (f, e))))
+
+pub length-right : (s : List ℕ) (m : ℕ) {k : ℕ} → m ≡ countOf s → k ≡ fileLength (listLayout s) (cellsOf s) m
+    → length s ≡ k → wrongLength s ≡ false
+unfolding wrongLength
+length-right s m e f q =
+    rw (eq-eqb (length s) (fileLength (listLayout s) (cellsOf s) (countOf s)) (q ∙ rw (f, e)))
 
 -- the first row of a list that holds
 module _ (s : List ℕ) (values : List ℕ) where
   abbrev refused : ℕ → Type 0
-  refused k = (k, []) ≡ answer (first (listRows storeList s)) values
+  refused k = (k, []) ≡ answer (first (listRows lists s)) values
 
-  pub row-2 : notAList storeList s ≡ true → refused 2
+  pub row-2 : notAList lists s ≡ true → refused 2
   row-2 a = rw a
 
-  module _ (a : notAList storeList s ≡ false) where
+  module _ (a : notAList lists s ≡ false) where
     pub row-3 : tooLarge s ≡ true → refused 3
     row-3 b = rw (a, b)
 
     module _ (b : tooLarge s ≡ false) where
-      pub row-4 : wrongLength storeList s ≡ true → refused 4
+      pub row-4 : wrongLength s ≡ true → refused 4
       row-4 d = rw (a, b, d)
 
-      module _ (d : wrongLength storeList s ≡ false) where
-        pub row-5 : strayEntry storeList s ≡ true → refused 5
+      module _ (d : wrongLength s ≡ false) where
+        pub row-5 : strayEntry s ≡ true → refused 5
         row-5 e = rw (a, b, d, e)
 
-        module _ (e : strayEntry storeList s ≡ false) where
-          pub row-6 : unordered storeList s ≡ true → refused 6
+        module _ (e : strayEntry s ≡ false) where
+          pub row-6 : unordered s ≡ true → refused 6
           row-6 f = rw (a, b, d, e, f)
 
-          pub row-none : unordered storeList s ≡ false → (0, values) ≡ answer (first (listRows storeList s)) values
+          pub row-none : unordered s ≡ false → (0, values) ≡ answer (first (listRows lists s)) values
           row-none f = rw (a, b, d, e, f)
+
+-- refusal 1, and the rows behind it
+module _ (a b : List ℕ) where
+  pub few-first : length a < 8192 → true ≡ fewWords (lent a b)
+  unfolding fewWords
+  few-first l = rw (lt-ltb (length a) 8192 l)
+
+  pub few-second : 8192 ≤ length a → ltb (length b) 8192 ≡ fewWords (lent a b)
+  unfolding fewWords
+  few-second l = rw (le-ltb (length a) 8192 l, or-false)
+
+pub call-on : (s values : List ℕ) {few : Bool} → few ≡ false
+    → answer (first (listRows lists s)) values ≡ answer (first (callRows few s)) values
+call-on s values e = rw e

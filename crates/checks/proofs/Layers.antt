@@ -10,8 +10,8 @@ use mathlib.Core.Bool.{Bool, true, false, cond}
 use mathlib.Core.List.{List, [], _∷_, _++_}
 use native.Mathlib.Omega.{arith}
 use lib.ListN.{length}
-use Rattle.cellfile.specs.Files.{storeList}
-use Rattle.checks.specs.Refusals.{Row, first, fewWords, listRows}
+use Rattle.checks.specs.Refusals.{Row, first, fewWords, lists, listRows}
+use Rattle.checks.specs.Calls.{callRows}
 use Rattle.cellfile.specs.Answers.{Answer, answer}
 use Rattle.matching.specs.Lists.{All}
 use Rattle.matching.proofs.Alls.{all-append}
@@ -111,42 +111,42 @@ answer-number n k vs h = (λ e. number n e, λ e. ap (λ j. answer j vs) e ∙ r
     refused (suc k) h = refl
 
 module _ (list lent : List ℕ) (more : List Row) where
-  abbrev pub callRows : List Row
-  callRows = (1, fewWords lent) ∷ (listRows storeList list ++ more)
+  abbrev called : List Row
+  called = callRows (fewWords lent) list ++ more
 
   -- where none of them holds the answer is the values
-  pub call-passes : (values : List ℕ) → fewWords lent ≡ false → first (listRows storeList list) ≡ 0
-      → All (λ (r : Row). r .1 ≡ false) more → answer (first callRows) values ≡ (0, values)
+  pub call-passes : (values : List ℕ) → fewWords lent ≡ false → first (listRows lists list) ≡ 0
+      → All (λ (r : Row). r .1 ≡ false) more → answer (first called) values ≡ (0, values)
   call-passes values few h p =
-      rows-pass callRows values (
+      rows-pass called values (
         few,
-        all-append (λ (r : Row). r .1 ≡ false) (listRows storeList list) more (list-none storeList list h) p,
+        all-append (λ (r : Row). r .1 ≡ false) (listRows lists list) more (list-none lists list h) p,
       )
 
   -- where the number is 0 none of them holds
-  pub call-sound : (us values : List ℕ) → All (λ (r : Row). 0 < r .0) more → answer (first callRows) values ≡ (0, us)
-      → (fewWords lent ≡ false) × (first (listRows storeList list) ≡ 0) × All (λ (r : Row). r .1 ≡ false) more
+  pub call-sound : (us values : List ℕ) → All (λ (r : Row). 0 < r .0) more → answer (first called) values ≡ (0, us)
+      → (fewWords lent ≡ false) × (first (listRows lists list) ≡ 0) × All (λ (r : Row). r .1 ≡ false) more
       × (us ≡ values)
   call-sound us values p e =
-      let a = answer-accepted (first callRows) us values (sym e) in
+      let a = answer-accepted (first called) us values (sym e) in
       let b =
-      first-none callRows
-      (omega arith, all-append (λ (r : Row). 0 < r .0) (listRows storeList list) more (omega arith) p) (a .0) in
-      let c = rows-apart (listRows storeList list) more (b .1) in
+      first-none called
+      (omega arith, all-append (λ (r : Row). 0 < r .0) (listRows lists list) more (omega arith) p) (a .0) in
+      let c = rows-apart (listRows lists list) more (b .1) in
       (b .0, c .0, c .1, a .1)
 
 -- a number above 6 is answered just where its row is the first that holds
 pub call-refused : (list lent : List ℕ) (rows more : List Row) (k : ℕ) (t : Bool) (values : List ℕ) → 6 < k
     → All (λ (r : Row). r .0 ≢ k) rows → All (λ (r : Row). r .0 ≢ k) more
-    → (answer (first (callRows list lent (rows ++ (k, t) ∷ more))) values ≡ (k, []))
-    ↔ ((fewWords lent ≡ false) × (first (listRows storeList list) ≡ 0) × All (λ (r : Row). r .1 ≡ false) rows
+    → (answer (first (callRows (fewWords lent) list ++ (rows ++ (k, t) ∷ more))) values ≡ (k, []))
+    ↔ ((fewWords lent ≡ false) × (first (listRows lists list) ≡ 0) × All (λ (r : Row). r .1 ≡ false) rows
     × (t ≡ true))
 call-refused list lent rows more k t values h p q = (to, from)
   where
     before : List Row
-    before = (1, fewWords lent) ∷ (listRows storeList list ++ rows)
+    before = (1, fewWords lent) ∷ (listRows lists list ++ rows)
 
-    others : All (λ (r : Row). r .0 ≢ k) (listRows storeList list)
+    others : All (λ (r : Row). r .0 ≢ k) (listRows lists list)
     others =
         ((λ e. omega arith), ((λ e. omega arith), ((λ e. omega arith), ((λ e. omega arith), ((λ e. omega arith), tt)))))
 
@@ -155,22 +155,22 @@ call-refused list lent rows more k t values h p q = (to, from)
 
     Says : Type 0
     Says =
-        (fewWords lent ≡ false) × (first (listRows storeList list) ≡ 0) × All (λ (r : Row). r .1 ≡ false) rows
+        (fewWords lent ≡ false) × (first (listRows lists list) ≡ 0) × All (λ (r : Row). r .1 ≡ false) rows
         × (t ≡ true)
 
     to : answer (first (before ++ (k, t) ∷ more)) values ≡ (k, []) → Says
     to e =
         let a =
         first-at before more k t (omega arith)
-        ((λ e. omega arith), all-append (λ (r : Row). r .0 ≢ k) (listRows storeList list) rows others p) q
+        ((λ e. omega arith), all-append (λ (r : Row). r .0 ≢ k) (listRows lists list) rows others p) q
         (number .0 e) in
-        let b = rows-apart (listRows storeList list) rows (a .0 .1) in
+        let b = rows-apart (listRows lists list) rows (a .0 .1) in
         (a .0 .0, b .0, b .1, a .1)
 
     from : Says → answer (first (before ++ (k, t) ∷ more)) values ≡ (k, [])
     from s =
         number .1 (first-here before more k t (
           s .0,
-          all-append (λ (r : Row). r .1 ≡ false) (listRows storeList list) rows (list-none storeList list (s .1))
+          all-append (λ (r : Row). r .1 ≡ false) (listRows lists list) rows (list-none lists list (s .1))
               (s .2),
         ) (s .3))

@@ -8,11 +8,11 @@ use native.Mathlib.Omega.{arith}
 use borrow.Author.Tests.{eqb-true, ltb-false, leb-false, not-false}
 use lib.Dec.{ltb, leb, eqb}
 use lib.ListN.{length, getD}
-use Rattle.matching.specs.Lists.{any, All}
+use Rattle.matching.specs.Lists.{any, mem, All}
 use Rattle.matching.specs.Pairs.{Pair}
 use Rattle.matching.specs.Listed.{Entry}
-use Rattle.cellfile.specs.Files.{Layout, kindOf, cellsOf, countOf, zerosOf, fileLength, entriesOf, pairing, asPair}
-use Rattle.cellfile.specs.Files.{readEntries, pairsOf, key}
+use Rattle.cellfile.specs.Files.{Layout, kindOf, cellsOf, countOf, zerosOf, fileLength, pairing, asPair}
+use Rattle.cellfile.specs.Files.{readEntries, pairsOf, listLayout, entriesAll, entryKey}
 use Rattle.checks.specs.Refusals.{Row, first, listRows, notAList, wrongLength, strayPair, strayEntry, tooLarge}
 use Rattle.checks.specs.Refusals.{ascendingFrom, unordered, misheaded, badPair, badPairing}
 use Rattle.matching.proofs.Alls.{all-map}
@@ -45,16 +45,16 @@ first-none (r ∷ rows) h e =
     let now = row-none (r .1) (r .0) (first rows) (h .0) e in
     (now .0, first-none rows (h .1) (now .1))
 
-pub list-none : (l : Layout) (s : List ℕ) → first (listRows l s) ≡ 0 → All (λ (r : Row). r .1 ≡ false) (listRows l s)
-list-none l s e = first-none (listRows l s) (omega arith) e
+pub list-none : (kinds s : List ℕ) → first (listRows kinds s) ≡ 0 → All (λ (r : Row). r .1 ≡ false) (listRows kinds s)
+list-none kinds s e = first-none (listRows kinds s) (omega arith) e
 
 -- ---- conditions
 
-pub not-a-list-none : (l : Layout) (s : List ℕ) → notAList l s ≡ false → (kindOf s ≡ l .kind) × (zerosOf s ≡ 0)
+pub not-a-list-none : (kinds s : List ℕ) → notAList kinds s ≡ false → (mem (kindOf s) kinds ≡ true) × (zerosOf s ≡ 0)
 unfolding notAList
-not-a-list-none l s e =
-    let h = or-none (not (eqb (kindOf s) (l .kind))) _ (or-none (ltb (length s) 4) _ e .1) in
-    (differ-none _ _ (h .0), differ-none _ _ (h .1))
+not-a-list-none kinds s e =
+    let h = or-none (not (mem (kindOf s) kinds)) _ (or-none (ltb (length s) 4) _ e .1) in
+    (not-false _ (h .0), differ-none _ _ (h .1))
 
 pub too-large-none : (s : List ℕ) → tooLarge s ≡ false → (cellsOf s ≤ 1024) × (countOf s ≤ 4096)
 unfolding tooLarge
@@ -62,33 +62,33 @@ too-large-none s e =
     let h = or-none (ltb 1024 (cellsOf s)) _ e in
     (ltb-false 1024 (cellsOf s) (h .0), ltb-false 4096 (countOf s) (h .1))
 
-pub wrong-length-none : (l : Layout) (s : List ℕ) → wrongLength l s ≡ false
-    → length s ≡ fileLength l (cellsOf s) (countOf s)
+pub wrong-length-none : (s : List ℕ) → wrongLength s ≡ false
+    → length s ≡ fileLength (listLayout s) (cellsOf s) (countOf s)
 unfolding wrongLength
-wrong-length-none l s e = differ-none _ _ e
+wrong-length-none s e = differ-none _ _ e
 
 pub stray-pair-none : (n a b : ℕ) → strayPair n a b ≡ false → (a < b) × (b < n)
 stray-pair-none n a b e =
     let h = or-none (leb n b) (leb b a) (or-none (leb n a) _ e .1) in
     (leb-false b a (h .1), leb-false n b (h .0))
 
-pub stray-entry-none : (l : Layout) (s : List ℕ) → strayEntry l s ≡ false
-    → All (λ (e : Entry). (e .0 < e .1) × (e .1 < cellsOf s)) (entriesOf l s)
+pub stray-entry-none : (s : List ℕ) → strayEntry s ≡ false
+    → All (λ (e : Entry). (e .0 < e .1) × (e .1 < cellsOf s)) (entriesAll s)
 unfolding strayEntry
-stray-entry-none l s e =
-    all-map (λ (x : Entry). stray-pair-none (cellsOf s) (x .0) (x .1)) (entriesOf l s)
-    (any-none (λ (x : Entry). strayPair (cellsOf s) (x .0) (x .1)) (entriesOf l s) e)
+stray-entry-none s e =
+    all-map (λ (x : Entry). stray-pair-none (cellsOf s) (x .0) (x .1)) (entriesAll s)
+    (any-none (λ (x : Entry). strayPair (cellsOf s) (x .0) (x .1)) (entriesAll s) e)
 
-pub unordered-none : (l : Layout) (s : List ℕ) → unordered l s ≡ false
-    → ascendingFrom 0 (map (λ (e : Entry). key (e .0) (e .1)) (entriesOf l s)) ≡ true
+pub unordered-none : (s : List ℕ) → unordered s ≡ false → ascendingFrom 0 (map entryKey (entriesAll s)) ≡ true
 unfolding unordered
-unordered-none l s e = not-false _ e
+unordered-none s e = not-false _ e
 
-pub misheaded-none : (kind entryBytes n : ℕ) (s : List ℕ) → misheaded kind entryBytes n s ≡ false
-    → (kindOf s ≡ kind) × (cellsOf s ≡ n) × (zerosOf s ≡ 0) × (length s ≡ 4 + entryBytes * countOf s)
+pub misheaded-none : (l : Layout) (n : ℕ) (s : List ℕ) → misheaded l n s ≡ false
+    → (kindOf s ≡ l .kind) × (cellsOf s ≡ n) × (zerosOf s ≡ 0)
+    × (length s ≡ fileLength l (cellsOf s) (countOf s))
 unfolding misheaded
-misheaded-none kind entryBytes n s e =
-    let a = or-none (not (eqb (kindOf s) kind)) _ (or-none (ltb (length s) 4) _ e .1) in
+misheaded-none l n s e =
+    let a = or-none (not (eqb (kindOf s) (l .kind))) _ (or-none (ltb (length s) 4) _ e .1) in
     let b = or-none (not (eqb (cellsOf s) n)) _ (a .1) in
     let c = or-none (not (eqb (zerosOf s) 0)) _ (b .1) in
     (differ-none _ _ (a .0), differ-none _ _ (b .0), differ-none _ _ (c .0), differ-none _ _ (c .1))
@@ -99,9 +99,9 @@ pub bad-pairing-none : (n : ℕ) (s : List ℕ) → badPairing n s ≡ false
     × (ascendingFrom 0 (map (λ (p : Pair). p .0) (pairsOf s)) ≡ true)
 unfolding badPairing
 bad-pairing-none n s e =
-    let a = or-none (misheaded 4 3 n s) _ e in
+    let a = or-none (misheaded pairing n s) _ e in
     let b = or-none (any (badPair n) (readEntries pairing s)) _ (a .1) in (
-      misheaded-none 4 3 n s (a .0) .3,
+      misheaded-none pairing n s (a .0) .3,
       all-values asPair _ (readEntries pairing s)
           (all-map (λ (r : List ℕ). good r) (readEntries pairing s)
           (any-none (badPair n) (readEntries pairing s) (b .0))),

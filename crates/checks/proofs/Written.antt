@@ -1,11 +1,10 @@
 -- What is written is not refused. In order: the header of a file that fits is read again (`header-read`), and the
--- entries (`entries-read`); where nothing stands between the header and the entries, refusals 7 and 9 find no fault in
--- the header (`headed`); a well-formed list passes 2 to 6 (`list-passes`) and is read again (`list-cells`,
--- `list-written`); a slip of steps that have a rule passes 7 (`slip-passes`), and its steps are read again
--- (`steps-read`); pairs of n cells in file order, as a pairing, pass 9 (`pairing-passes`) and are read again
--- (`pairs-read`). Assumes nothing.
-use Prim.Native.Nat.{ℕ, suc, _+_, _*_, _≤_, _<_}
-use mathlib.Core.Path.{_≡_, refl, ap, _∙_}
+-- entries (`entries-read`); refusals 7 and 9 find no fault in the header (`headed`); a well-formed list passes 2 to 6
+-- (`list-passes`) and is read again (`list-cells`, `list-written`); a slip of steps that have a rule passes 7
+-- (`slip-passes`), and its steps are read again (`steps-read`); pairs of n cells in file order, as a pairing, pass 9
+-- (`pairing-passes`) and are read again (`pairs-read`). Assumes nothing.
+use Prim.Native.Nat.{ℕ, suc, _+_, _≤_, _<_}
+use mathlib.Core.Path.{_≡_, refl, sym, ap, _∙_}
 use mathlib.Core.Logic.{inl, inr}
 use mathlib.Core.Bool.{true, false, not}
 use mathlib.Core.List.{List, [], _∷_, _++_, map}
@@ -18,12 +17,12 @@ use Rattle.matching.specs.Listed.{Entry, Before, Accepted}
 use Rattle.matching.proofs.Alls.{all-map}
 use Rattle.matching.proofs.Filed.{InOrder}
 use Rattle.matching.proofs.Sums.{each-map, each-all}
-use Rattle.cellfile.specs.Fields.{size, readRecord, writeRecord, writeRecords}
-use Rattle.cellfile.specs.Files.{Layout, storeList, slip, pairing, start, fileLength, File, writeFile, readEntries}
+use Rattle.cellfile.specs.Fields.{readRecord, writeRecord, writeRecords}
+use Rattle.cellfile.specs.Files.{Layout, storeList, slip, pairing, fileLength, File, writeFile, readEntries}
 use Rattle.cellfile.specs.Files.{asEntry, asFields, entriesOf, header, kindOf, cellsOf, countOf, zerosOf, asPair}
-use Rattle.cellfile.specs.Files.{stepsOf, pairsOf, pairFields, key}
+use Rattle.cellfile.specs.Files.{stepsOf, pairsOf, pairFields, key, entryKey, listLayout, entriesAll}
 use Rattle.cellfile.specs.Fits.{FitsFields, FitsFile}
-use Rattle.checks.specs.Refusals.{first, listRows, notAList, tooLarge, wrongLength, strayPair, strayEntry}
+use Rattle.checks.specs.Refusals.{first, lists, listRows, notAList, tooLarge, wrongLength, strayPair, strayEntry}
 use Rattle.checks.specs.Refusals.{ascendingFrom, unordered, misheaded, noRule, badSlip, badPair, badPairing}
 use Rattle.cellfile.proofs.All.{all-values}
 use Rattle.cellfile.proofs.Fields.{read-write-record}
@@ -53,17 +52,17 @@ module _ (l : Layout) (f : File) (fits : FitsFile l f) where
   zeros-read : zerosOf (writeFile l f) ≡ 0
   zeros-read = ap (λ (r : List ℕ). getD r 3 0) header-read
 
-  pub headed : start l (f .cells) ≡ 4 → misheaded (l .kind) (size (l .entry)) (f .cells) (writeFile l f) ≡ false
+  pub headed : misheaded l (f .cells) (writeFile l f) ≡ false
   unfolding misheaded
-  headed four =
+  headed =
       let s = writeFile l f in
       let long = length-file l f in
       rw (
-        le-ltb (length s) 4 (omega (arith, long, four)),
+        le-ltb (length s) 4 (omega (arith, long)),
         eq-eqb (kindOf s) (l .kind) kind-read,
         eq-eqb (cellsOf s) (f .cells) cells-read,
         eq-eqb (zerosOf s) 0 zeros-read,
-        eq-eqb (length s) (4 + size (l .entry) * countOf s) (long ∙ rw (four, count-read)),
+        eq-eqb (length s) (fileLength l (cellsOf s) (countOf s)) (long ∙ rw (cells-read, count-read)),
       )
 
 -- ---- lists
@@ -74,7 +73,7 @@ key-before e f l (inr p) = omega (arith, p .0, p .1)
 
 keys-ascend : (n low : ℕ) (es : List Entry) → n ≤ 1024 → Accepted n es
     → All (λ (e : Entry). low ≤ key (e .0) (e .1)) es
-    → ascendingFrom low (map (λ (e : Entry). key (e .0) (e .1)) es) ≡ true
+    → ascendingFrom low (map entryKey es) ≡ true
 keys-ascend n low [] le h p = refl
 keys-ascend n low (e ∷ es) le h p =
     rw (le-leb low (key (e .0) (e .1)) (p .0))
@@ -125,18 +124,24 @@ module _ (n : ℕ) (es : List Entry) (le : n ≤ 1024) (few : length es ≤ 4096
       each (e ∷ es) a p =
           ((omega (arith, a .0 .0, a .0 .1), (omega (arith, a .0 .1), (p .0, tt))), each es (a .1 .1) (p .1))
 
-  pub list-written : entriesOf storeList (writeFile storeList said) ≡ es
-  list-written = entries-written storeList n [] es list-fits
+  -- its layout is the store list's
+  layout : listLayout s ≡ storeList
+  unfolding listLayout
+  layout = refl
+
+  pub list-written : entriesAll (writeFile storeList said) ≡ es
+  unfolding entriesAll
+  list-written = rw layout (entries-written storeList n [] es list-fits)
 
   pub list-cells : cellsOf (writeFile storeList said) ≡ n
   list-cells = cells-read storeList said list-fits
 
-  two : notAList storeList s ≡ false
+  two : notAList lists s ≡ false
   unfolding notAList
   two =
       rw (
         le-ltb (length s) 4 (omega (arith, length-file storeList said)),
-        eq-eqb (kindOf s) 1 (kind-read storeList said list-fits),
+        eq-eqb 1 (kindOf s) (sym (kind-read storeList said list-fits)),
         eq-eqb (zerosOf s) 0 (zeros-read storeList said list-fits),
       )
 
@@ -148,23 +153,26 @@ module _ (n : ℕ) (es : List Entry) (le : n ≤ 1024) (few : length es ≤ 4096
         le-ltb 4096 (countOf s) (omega (arith, count-read storeList said list-fits, length-map es asFields, few)),
       )
 
-  four : wrongLength storeList s ≡ false
+  four : wrongLength s ≡ false
   unfolding wrongLength
   four =
-      rw (eq-eqb (length s) (fileLength storeList (cellsOf s) (countOf s))
-      (length-file storeList said ∙ rw (count-read storeList said list-fits)))
+      rw (
+        layout,
+        eq-eqb (length s) (fileLength storeList (cellsOf s) (countOf s))
+            (length-file storeList said ∙ rw (count-read storeList said list-fits)),
+      )
 
-  five : strayEntry storeList s ≡ false
+  five : strayEntry s ≡ false
   unfolding strayEntry
   five =
-      ap (λ (c : ℕ). any (λ (e : Entry). strayPair c (e .0) (e .1)) (entriesOf storeList s)) list-cells
+      ap (λ (c : ℕ). any (λ (e : Entry). strayPair c (e .0) (e .1)) (entriesAll s)) list-cells
       ∙ ap (any (λ (e : Entry). strayPair n (e .0) (e .1))) list-written
       ∙ none-stray n es h
 
-  six : unordered storeList s ≡ false
+  six : unordered s ≡ false
   unfolding unordered
   six =
-      ap (λ (fs : List Entry). not (ascendingFrom 0 (map (λ (e : Entry). key (e .0) (e .1)) fs))) list-written
+      ap (λ (fs : List Entry). not (ascendingFrom 0 (map entryKey fs))) list-written
       ∙ ap not (keys-ascend n 0 es le h (all-true es))
     where
       all-true : (es : List Entry) → All (λ (e : Entry). 0 ≤ key (e .0) (e .1)) es
@@ -172,7 +180,7 @@ module _ (n : ℕ) (es : List Entry) (le : n ≤ 1024) (few : length es ≤ 4096
       all-true (e ∷ es) = (omega arith, all-true es)
 
   -- A well-formed list is not refused.
-  pub list-passes : first (listRows storeList (writeFile storeList said)) ≡ 0
+  pub list-passes : first (listRows lists (writeFile storeList said)) ≡ 0
   list-passes = rw (two, three, four, five, six)
 
 -- ---- slips
@@ -181,10 +189,10 @@ module _ (f : File) (fits : FitsFile slip f) where
   pub steps-read : stepsOf (writeFile slip f) ≡ map asPair (f .entries)
   steps-read = ap (map asPair) (entries-read slip f fits)
 
-  pub slip-passes : any (λ (t : ℕ × ℕ). noRule (t .0)) (map asPair (f .entries)) ≡ false
-      → badSlip (f .cells) (writeFile slip f) ≡ false
+  pub slip-passes : (taken : ℕ × ℕ) → any (λ (t : ℕ × ℕ). noRule taken (t .0)) (map asPair (f .entries)) ≡ false
+      → badSlip taken (f .cells) (writeFile slip f) ≡ false
   unfolding badSlip
-  slip-passes rules = rw (headed slip f fits refl, steps-read, rules)
+  slip-passes taken rules = rw (headed slip f fits, steps-read, rules)
 
 -- ---- pairings
 
@@ -230,7 +238,7 @@ module _ (n : ℕ) (m : List Pair) (le : n ≤ 1024) (few : length m < 8192) (h 
   unfolding badPairing
   pairing-passes o =
       rw (
-        headed pairing file fits refl,
+        headed pairing file fits,
         entries-read pairing file fits,
         no-bad n m h,
         ascending 0 m o (each-all (λ a b. omega arith) m),

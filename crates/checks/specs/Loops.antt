@@ -1,23 +1,26 @@
 -- What the contracts of the checks cite. Nobody has to believe these: laws tie them to the refusals' definitions
 -- (proofs/Forms, proofs/Parts).
-use Prim.Native.Nat.{ℕ}
+use Prim.Native.Nat.{ℕ, _≤_}
+use mathlib.Core.Path.{_≡_}
 use mathlib.Core.Bool.{Bool, not, _||_}
 use mathlib.Core.List.{List, map}
-use lib.ListN.{getD}
+use lib.ListN.{length, getD}
 use Rattle.matching.specs.Lists.{any}
-use Rattle.matching.specs.Listed.{Entry}
-use Rattle.cellfile.specs.Files.{asEntry, asPair, key}
-use Rattle.checks.specs.Refusals.{strayPair, ascendingFrom, noRule, badPair}
+use Rattle.cellfile.specs.Fields.{size}
+use Rattle.cellfile.specs.Files.{Layout, start, fileLength, cellsOf, countOf}
+use Rattle.checks.specs.Refusals.{ascendingFrom, badPair}
 
--- What refusals 5, 6, 7 and 9 say of the entries.
-abbrev pub stray : ℕ → List (List ℕ) → Bool
-stray n rs = any (λ (e : Entry). strayPair n (e .0) (e .1)) (map asEntry rs)
+-- A file of m records with all the bytes that its header says.
+pub record WholeFile (l : Layout) (s : List ℕ) (m : ℕ) : Type 0 where
+  pub count : m ≡ countOf s
+  pub long : fileLength l (cellsOf s) (countOf s) ≤ length s
 
-abbrev pub keys : List (List ℕ) → List ℕ
-keys rs = map (λ (e : Entry). key (e .0) (e .1)) (map asEntry rs)
+-- A layout of that kind with records of so many bytes and nothing between the header and the records.
+pub record Headed (l : Layout) (kind bytes : ℕ) : Type 0 where
+  pub kind-is : l .kind ≡ kind
+  pub bytes-are : size (l .entry) ≡ bytes
+  pub bare : (n : ℕ) → start l n ≡ 4
 
-abbrev pub ruleless : List (List ℕ) → Bool
-ruleless rs = any (λ (t : ℕ × ℕ). noRule (t .0)) (map asPair rs)
-
+-- What refusal 9 says of a pairing's entries, of which those seen ascend to below `low`.
 abbrev pub badPairs : ℕ → ℕ → List (List ℕ) → Bool
 badPairs n low rs = any (badPair n) rs || not (ascendingFrom low (map (λ (r : List ℕ). getD r 0 0) rs))

@@ -1,17 +1,16 @@
 -- 'Refusals in checking order. Each is checked where the call has that input; the first that holds is the answer.'
 -- One row for each number. A call's refusal is the first of its rows; the rows are the same for every call.
-use Prim.Native.Nat.{ℕ, suc, _+_, _*_}
+use Prim.Native.Nat.{ℕ, suc}
 use mathlib.Core.Bool.{Bool, true, not, cond, _&&_, _||_}
 use mathlib.Core.List.{List, [], _∷_, map}
 use lib.Dec.{ltb, leb, eqb}
 use lib.ListN.{length, getD}
-use Rattle.matching.specs.Lists.{any}
+use Rattle.matching.specs.Lists.{any, mem}
 use Rattle.matching.specs.Pairs.{Pair, Points}
 use Rattle.matching.specs.Pairing.{isPairing}
 use Rattle.matching.specs.Listed.{Entry}
-use Rattle.cellfile.specs.Fields.{size}
 use Rattle.cellfile.specs.Files.{kindOf, cellsOf, countOf, zerosOf, Layout, slip, pairing, fileLength, readEntries}
-use Rattle.cellfile.specs.Files.{entriesOf, stepsOf, key}
+use Rattle.cellfile.specs.Files.{listLayout, entriesAll, stepsOf, entryKey}
 
 -- A row: the refusal's number, and whether its condition holds.
 abbrev pub Row : Type 0
@@ -26,54 +25,62 @@ first (r ∷ rs) = cond (r .1) (r .0) (first rs)
 unfoldable pub fewWords : List ℕ → Bool
 fewWords lent = any (λ (words : ℕ). ltb words 8192) lent
 
--- 2. 'The store list is shorter than 4 bytes, or its kind is not 1, or a header zero bit is set.'
-unfoldable pub notAList : Layout → List ℕ → Bool
-notAList l s = ltb (length s) 4 || (not (eqb (kindOf s) (l .kind)) || not (eqb (zerosOf s) 0))
+-- 2. 'The store list is shorter than 4 bytes, or its kind is not 1, or a header zero bit is set.' Given the kinds of
+-- list that the call takes; `lists` are those that every call takes.
+abbrev pub lists : List ℕ
+lists = 1 ∷ []
+
+unfoldable pub notAList : List ℕ → List ℕ → Bool
+notAList kinds s = ltb (length s) 4 || (not (mem (kindOf s) kinds) || not (eqb (zerosOf s) 0))
 
 -- 3. 'Its n is above 1,024 or its m above 4,096.'
 unfoldable pub tooLarge : List ℕ → Bool
 tooLarge s = ltb 1024 (cellsOf s) || ltb 4096 (countOf s)
 
 -- 4. 'Its length is not 4 + 5 × m.'
-unfoldable pub wrongLength : Layout → List ℕ → Bool
-wrongLength l s = not (eqb (length s) (fileLength l (cellsOf s) (countOf s)))
+unfoldable pub wrongLength : List ℕ → Bool
+wrongLength s = not (eqb (length s) (fileLength (listLayout s) (cellsOf s) (countOf s)))
 
 -- 5. 'Some entry has a cell not below n, or a not below b.'
 abbrev pub strayPair : ℕ → ℕ → ℕ → Bool
 strayPair n a b = leb n a || (leb n b || leb b a)
 
-unfoldable pub strayEntry : Layout → List ℕ → Bool
-strayEntry l s = any (λ (e : Entry). strayPair (cellsOf s) (e .0) (e .1)) (entriesOf l s)
+unfoldable pub strayEntry : List ℕ → Bool
+strayEntry s = any (λ (e : Entry). strayPair (cellsOf s) (e .0) (e .1)) (entriesAll s)
 
 -- 6. 'The entries are not strictly ascending', by (a, b).
 abbrev pub ascendingFrom : ℕ → List ℕ → Bool
 ascendingFrom low [] = true
 ascendingFrom low (k ∷ ks) = leb low k && ascendingFrom (suc k) ks
 
-unfoldable pub unordered : Layout → List ℕ → Bool
-unordered l s = not (ascendingFrom 0 (map (λ (e : Entry). key (e .0) (e .1)) (entriesOf l s)))
+unfoldable pub unordered : List ℕ → Bool
+unordered s = not (ascendingFrom 0 (map entryKey (entriesAll s)))
 
-abbrev pub listRows : Layout → List ℕ → List Row
-listRows l s =
-    (2, notAList l s)
+abbrev pub listRows : List ℕ → List ℕ → List Row
+listRows kinds s =
+    (2, notAList kinds s)
     ∷ (3, tooLarge s)
-    ∷ (4, wrongLength l s)
-    ∷ (5, strayEntry l s)
-    ∷ (6, unordered l s)
+    ∷ (4, wrongLength s)
+    ∷ (5, strayEntry s)
+    ∷ (6, unordered s)
     ∷ []
 
--- 7 and 9: 'shorter than 4 bytes, or of wrong kind, n, length or zero bits'.
-unfoldable pub misheaded : ℕ → ℕ → ℕ → List ℕ → Bool
-misheaded kind entryBytes n s =
-    ltb (length s) 4 || (not (eqb (kindOf s) kind) || (not (eqb (cellsOf s) n)
-    || (not (eqb (zerosOf s) 0) || not (eqb (length s) (4 + entryBytes * countOf s)))))
+-- 7 and 9: 'shorter than 4 bytes, or of wrong kind, n, length or zero bits', by the file's layout.
+unfoldable pub misheaded : Layout → ℕ → List ℕ → Bool
+misheaded l n s =
+    ltb (length s) 4 || (not (eqb (kindOf s) (l .kind)) || (not (eqb (cellsOf s) n)
+    || (not (eqb (zerosOf s) 0) || not (eqb (length s) (fileLength l (cellsOf s) (countOf s))))))
 
--- 7. '.. or has a rule outside 1 to 3.'
-abbrev pub noRule : ℕ → Bool
-noRule rule = eqb rule 0 || ltb 3 rule
+-- 7. '.. or has a rule outside 1 to 3.' Given the first and the last rule that the call takes; `rules` are those of the
+-- steps leaf, ring and chain.
+abbrev pub rules : ℕ × ℕ
+rules = (1, 3)
 
-unfoldable pub badSlip : ℕ → List ℕ → Bool
-badSlip n s = misheaded (slip .kind) (size (slip .entry)) n s || any (λ (t : ℕ × ℕ). noRule (t .0)) (stepsOf s)
+abbrev pub noRule : ℕ × ℕ → ℕ → Bool
+noRule taken rule = ltb rule (taken .0) || ltb (taken .1) rule
+
+unfoldable pub badSlip : ℕ × ℕ → ℕ → List ℕ → Bool
+badSlip taken n s = misheaded slip n s || any (λ (t : ℕ × ℕ). noRule taken (t .0)) (stepsOf s)
 
 -- 8. 'Some step of the slip is not allowed where it stands': `stand` tells whether the steps are.
 abbrev pub disallowed : (List (ℕ × ℕ) → Bool) → List ℕ → Bool
@@ -85,7 +92,7 @@ badPair n r = strayPair n (getD r 0 0) (getD r 1 0) || not (eqb (getD r 2 0) 0)
 
 unfoldable pub badPairing : ℕ → List ℕ → Bool
 badPairing n s =
-    misheaded (pairing .kind) (size (pairing .entry)) n s || (any (badPair n) (readEntries pairing s)
+    misheaded pairing n s || (any (badPair n) (readEntries pairing s)
     || not (ascendingFrom 0 (map (λ (r : List ℕ). getD r 0 0) (readEntries pairing s))))
 
 -- 10. 'The pairing holds a cell twice, or a pair that is not in the graph it is for': `there` counts the graph's pairs.
@@ -96,6 +103,6 @@ noPairing there m = not (isPairing there m)
 abbrev pub crowded : ℕ → Bool
 crowded left = ltb 12 left
 
--- 12. 'An output is shorter than its file.' Given each output's length and its file's.
-unfoldable pub shortOutput : List (ℕ × ℕ) → Bool
-shortOutput outs = any (λ (o : ℕ × ℕ). ltb (o .0) (o .1)) outs
+-- 12. 'An output is shorter than its file.' Given the room of each output and its file.
+unfoldable pub shortOutput : List (ℕ × List ℕ) → Bool
+shortOutput outs = any (λ (o : ℕ × List ℕ). ltb (o .0) (length (o .1))) outs

@@ -1,17 +1,21 @@
-// Inner, for the calls: checks the form of a store list (refusals 2 to 6), a slip (7) and a pairing (9).
+// Inner, for the calls: checks the form of a list (refusals 2 to 6), a slip (7) and a pairing (9); and looks up pairs
+// in a list.
+use buffers::map::WORDS;
 use cellfile::decode;
 ghost use mathlib.Core.Path.{_≡_};
-ghost use mathlib.Core.Bool.{not};
 ghost use mathlib.Core.List.{_∷_, []};
-ghost use Prim.Native.Nat.{_+_, _*_, _≤_, _<_};
-ghost use lib.ListN.{length, drop};
-ghost use Rattle.cellfile.specs.Fields.{readRecords};
-ghost use Rattle.cellfile.specs.Files.{storeList, slip as slipLayout, pairing as pairingLayout, cellsOf, countOf};
-ghost use Rattle.checks.specs.Refusals.{first, listRows, notAList, tooLarge, ascendingFrom, misheaded, badSlip};
-ghost use Rattle.checks.specs.Refusals.{badPairing};
+ghost use Prim.Native.Nat.{ℕ, _≤_, _<_};
+ghost use Rattle.matching.specs.Lists.{any};
+ghost use Rattle.cellfile.specs.Files.{Layout, slip as slipLayout, pairing as pairingLayout, cellsOf, countOf, stepsOf};
+ghost use Rattle.cellfile.specs.Files.{readEntries, listLayout};
+ghost use Rattle.checks.specs.Refusals.{first, fewWords, lists, listRows, notAList, tooLarge, strayEntry};
+ghost use Rattle.checks.specs.Refusals.{unordered as disordered, misheaded, rules, noRule, badSlip, badPairing};
 ghost use Rattle.cellfile.specs.Answers.{answer};
+ghost use Rattle.buffers.specs.Buffers.{lent};
+ghost use Rattle.checks.specs.Calls.{callRows};
 ghost use Rattle.checks.specs.Checking.{checked};
-ghost use Rattle.checks.specs.Loops.{stray, keys, ruleless, badPairs};
+ghost use Rattle.checks.specs.Loops.{WholeFile, Headed, badPairs};
+ghost use Rattle.checks.specs.Merging.{Seeks};
 
 // A file's refusal, or its cells n and its count m.
 pub enum Checked {
@@ -19,19 +23,32 @@ pub enum Checked {
     Accepted { n: usize, m: usize },
 }
 
+// The answer of a call that writes files: a refusal's number, or the length of each file.
+pub enum Lengths {
+    Refused(u32),
+    One(usize),
+    Two { first: usize, second: usize },
+}
+
+const STORE_LIST: u64 = 1;
+
+const SLIP: u64 = 3;
+
+const PAIRING: u64 = 4;
+
 const MOST_CELLS: usize = 1024;
 
 const MOST_ENTRIES: usize = 4096;
 
 // Refusal 2.
 fn not_a_list(list: &[u8]) -> bool
-    ensures { λ r. ⌜ r ≡ notAList storeList (now (list .entry)) ⌝ }
+    ensures { λ r. ⌜ r ≡ notAList lists (now (list .entry)) ⌝ }
 {
     if list.len() < 4 {
         return true;
     }
     let h = decode::header_at(list);
-    if h.kind != 1 {
+    if h.kind != STORE_LIST {
         return true;
     }
     h.zeros != 0
@@ -50,13 +67,13 @@ fn too_large(list: &[u8]) -> bool
 
 // Refusal 5.
 fn stray_entry(list: &[u8], n: usize, m: usize) -> bool
-    requires { ⌜ (m ≤ 4096) × (4 + 5 * m ≤ length (now list)) ⌝ }
-    ensures { λ r. ⌜ r ≡ stray n (readRecords (storeList .entry) m (drop 4 (now (list .entry)))) ⌝ }
+    requires { ⌜ WholeFile (listLayout (now list)) (now list) m × (n ≡ cellsOf (now list)) ⌝ }
+    ensures { λ r. ⌜ r ≡ strayEntry (now (list .entry)) ⌝ }
 {
+    let shape = decode::shape_of(list);
     let mut i = 0;
     while i < m {
-        let at = 4 + 5 * i;
-        let e = decode::entry_at(&list[at..]);
+        let e = decode::list_entry(list, shape, i);
         if n <= e.b {
             return true;
         }
@@ -70,15 +87,14 @@ fn stray_entry(list: &[u8], n: usize, m: usize) -> bool
 
 // Refusal 6.
 fn unordered(list: &[u8], m: usize) -> bool
-    requires { ⌜ (m ≤ 4096) × (4 + 5 * m ≤ length (now list)) ⌝ }
-    ensures { λ r. ⌜ r
-        ≡ not (ascendingFrom 0 (keys (readRecords (storeList .entry) m (drop 4 (now (list .entry)))))) ⌝ }
+    requires { ⌜ WholeFile (listLayout (now list)) (now list) m ⌝ }
+    ensures { λ r. ⌜ r ≡ disordered (now (list .entry)) ⌝ }
 {
+    let shape = decode::shape_of(list);
     let mut low: usize = 0;
     let mut i = 0;
     while i < m {
-        let at = 4 + 5 * i;
-        let e = decode::entry_at(&list[at..]);
+        let e = decode::list_entry(list, shape, i);
         let key = e.a * 1024 + e.b;
         if key < low {
             return true;
@@ -91,7 +107,7 @@ fn unordered(list: &[u8], m: usize) -> bool
 
 // Refusals 2 to 6.
 pub fn check_list(list: &[u8]) -> Checked
-    ensures { λ r. ⌜ checked r ≡ answer (first (listRows storeList (now (list .entry))))
+    ensures { λ r. ⌜ checked r ≡ answer (first (listRows lists (now (list .entry))))
         (cellsOf (now (list .entry)) ∷ countOf (now (list .entry)) ∷ []) ⌝ }
 {
     if not_a_list(list) {
@@ -103,7 +119,7 @@ pub fn check_list(list: &[u8]) -> Checked
     let h = decode::header_at(list);
     let n = h.n;
     let m = h.m;
-    if list.len() != 4 + 5 * m {
+    if list.len() != decode::list_length(list, m) {
         return Checked::Refused(4);
     }
     if stray_entry(list, n, m) {
@@ -115,10 +131,31 @@ pub fn check_list(list: &[u8]) -> Checked
     Checked::Accepted { n, m }
 }
 
-// What refusals 7 and 9 share.
-fn wrong_head(s: &[u8], kind: u64, entry_bytes: usize, n: usize) -> bool
-    requires { ⌜ «entry_bytes» ≤ 8 ⌝ }
-    ensures { λ r. ⌜ r ≡ misheaded kind «entry_bytes» n (now (s .entry)) ⌝ }
+// Refusal 1.
+pub fn few_words(work_a: &[u64], work_b: &[u64]) -> bool
+    ensures { λ r. ⌜ r ≡ fewWords (lent (now («work_a» .entry)) (now («work_b» .entry))) ⌝ }
+{
+    if work_a.len() < WORDS {
+        return true;
+    }
+    work_b.len() < WORDS
+}
+
+// Refusals 1 to 6; `few` says whether 1 holds.
+pub fn check_call(few: bool, list: &[u8]) -> Checked
+    ensures { λ r. ⌜ checked r ≡ answer (first (callRows few (now (list .entry))))
+        (cellsOf (now (list .entry)) ∷ countOf (now (list .entry)) ∷ []) ⌝ }
+{
+    if few {
+        return Checked::Refused(1);
+    }
+    check_list(list)
+}
+
+// What refusals 7 and 9 share, for a layout of that kind with records of so many bytes.
+fn wrong_head(s: &[u8], kind: u64, bytes: usize, n: usize) -> bool
+    requires { ⌜ bytes ≤ 8 ⌝ }
+    ensures { λ r. ⌜ ((l : Layout) → Headed l kind bytes → r ≡ misheaded l n (now (s .entry))) ⌝ }
 {
     if s.len() < 4 {
         return true;
@@ -133,22 +170,21 @@ fn wrong_head(s: &[u8], kind: u64, entry_bytes: usize, n: usize) -> bool
     if h.zeros != 0 {
         return true;
     }
-    s.len() != 4 + entry_bytes * h.m
+    s.len() != 4 + bytes * h.m
 }
 
-// Whether some step has a rule outside 1 to 3.
-fn no_rule(slip: &[u8], m: usize) -> bool
-    requires { ⌜ (m < 8192) × (4 + 2 * m ≤ length (now slip)) ⌝ }
-    ensures { λ r. ⌜ r ≡ ruleless (readRecords (slipLayout .entry) m (drop 4 (now (slip .entry)))) ⌝ }
+// Whether some step has a rule below `low` or above `high`.
+fn no_rule(slip: &[u8], m: usize, low: u64, high: u64) -> bool
+    requires { ⌜ WholeFile slipLayout (now slip) m ⌝ }
+    ensures { λ r. ⌜ r ≡ any (λ (t : ℕ × ℕ). noRule (low, high) (t .0)) (stepsOf (now (slip .entry))) ⌝ }
 {
     let mut i = 0;
     while i < m {
-        let at = 4 + 2 * i;
-        let t = decode::step_at(&slip[at..]);
-        if t.rule == 0 {
+        let t = decode::slip_step(slip, i);
+        if t.rule < low {
             return true;
         }
-        if 3 < t.rule {
+        if high < t.rule {
             return true;
         }
         i += 1;
@@ -158,14 +194,13 @@ fn no_rule(slip: &[u8], m: usize) -> bool
 
 // Whether some entry has a set zero bit or not a < b < n, or a does not ascend.
 fn bad_pairs(pairing: &[u8], n: usize, m: usize) -> bool
-    requires { ⌜ (m < 8192) × (4 + 3 * m ≤ length (now pairing)) ⌝ }
-    ensures { λ r. ⌜ r ≡ badPairs n 0 (readRecords (pairingLayout .entry) m (drop 4 (now (pairing .entry)))) ⌝ }
+    requires { ⌜ WholeFile pairingLayout (now pairing) m ⌝ }
+    ensures { λ r. ⌜ r ≡ badPairs n 0 (readEntries pairingLayout (now (pairing .entry))) ⌝ }
 {
     let mut low: usize = 0;
     let mut i = 0;
     while i < m {
-        let at = 4 + 3 * i;
-        let p = decode::pair_at(&pairing[at..]);
+        let p = decode::pairing_pair(pairing, i);
         let a = p.a;
         if n <= p.b {
             return true;
@@ -185,17 +220,17 @@ fn bad_pairs(pairing: &[u8], n: usize, m: usize) -> bool
     false
 }
 
-// Refusal 7, of a slip for a list of n cells.
-pub fn check_slip(slip: &[u8], n: usize) -> Checked
-    ensures { λ r. ⌜ checked r ≡ answer (first ((7, badSlip n (now (slip .entry))) ∷ []))
+// Refusal 7, of a slip for a list of n cells, whose rules are from `low` to `high`.
+pub fn check_slip(slip: &[u8], n: usize, low: u64, high: u64) -> Checked
+    ensures { λ r. ⌜ checked r ≡ answer (first ((7, badSlip (low, high) n (now (slip .entry))) ∷ []))
         (n ∷ countOf (now (slip .entry)) ∷ []) ⌝ }
 {
-    if wrong_head(slip, 3, 2, n) {
+    if wrong_head(slip, SLIP, 2, n) {
         return Checked::Refused(7);
     }
     let h = decode::header_at(slip);
     let m = h.m;
-    if no_rule(slip, m) {
+    if no_rule(slip, m, low, high) {
         return Checked::Refused(7);
     }
     Checked::Accepted { n, m }
@@ -206,7 +241,7 @@ pub fn check_pairing(pairing: &[u8], n: usize) -> Checked
     ensures { λ r. ⌜ checked r ≡ answer (first ((9, badPairing n (now (pairing .entry))) ∷ []))
         (n ∷ countOf (now (pairing .entry)) ∷ []) ⌝ }
 {
-    if wrong_head(pairing, 4, 3, n) {
+    if wrong_head(pairing, PAIRING, 3, n) {
         return Checked::Refused(9);
     }
     let h = decode::header_at(pairing);
@@ -215,4 +250,42 @@ pub fn check_pairing(pairing: &[u8], n: usize) -> Checked
         return Checked::Refused(9);
     }
     Checked::Accepted { n, m }
+}
+
+// Whether a pair is an entry, the entry's points, and the place behind it.
+pub struct Match {
+    pub there: bool,
+    pub points: u64,
+    pub next: usize,
+}
+
+// Looks for the pair a, b from place i of a list of m entries on. They ascend, so the search ends at the first entry
+// that is not before the pair.
+pub fn seek(list: &[u8], m: usize, i: usize, a: usize, b: usize) -> Match
+    requires { ⌜ WholeFile (listLayout (now list)) (now list) m × (i ≤ m) × (a < 1024) × (b < 1024) ⌝ }
+    ensures { λ r. ⌜ Seeks (now (list .entry)) i (a, b) r ⌝ }
+{
+    let shape = decode::shape_of(list);
+    let want = a * 1024 + b;
+    let mut at = i;
+    while at < m {
+        let e = decode::list_entry(list, shape, at);
+        let have = e.a * 1024 + e.b;
+        at += 1;
+        if have == want {
+            return Match {
+                there: true,
+                points: e.points,
+                next: at,
+            };
+        }
+        if want < have {
+            break;
+        }
+    }
+    Match {
+        there: false,
+        points: 0,
+        next: m,
+    }
 }

@@ -15,16 +15,17 @@ use Rattle.matching.specs.Steps.{Step}
 use Rattle.matching.specs.Slip.{SomeStepNot}
 use Rattle.matching.proofs.Reduce.{replay-not}
 use Rattle.cellfile.specs.Files.{cellsOf, stepsOf, pairsOf, asName}
-use Rattle.checks.specs.Refusals.{Row, first, fewWords, badSlip, disallowed, badPairing, noPairing, crowded}
+use Rattle.checks.specs.Refusals.{Row, first, fewWords, rules, badSlip, disallowed, badPairing, noPairing, crowded}
 use Rattle.checks.specs.Refusals.{shortOutput}
 use Rattle.cellfile.specs.Answers.{answer}
 use Rattle.checks.proofs.Rows.{or-none}
-use Rattle.checks.proofs.Layers.{callRows, call-sound, call-refused}
+use Rattle.checks.specs.Calls.{callRows}
+use Rattle.checks.proofs.Layers.{call-sound, call-refused}
 use Rattle.weighing.proofs.Weights.{weigh-sound}
-use Rattle.starting.specs.Steps.{graphIn, stepsOn, stand, reduceSteps}
+use Rattle.starting.specs.Steps.{graphIn, stepsOn, stand, slipRows, reduceSteps}
 use Rattle.reduction.specs.Calls.{replayShort}
 use Rattle.starting.proofs.OnList.{list-graph}
-use Rattle.lifting.specs.Calls.{graphAfter, bySteps, slipRows, liftFile, solveFile, pairingFile, pairing}
+use Rattle.lifting.specs.Calls.{graphAfter, bySteps, liftFile, solveFile, pairingFile, pairing}
 use Rattle.claims.specs.Demand.{AcceptedList, Allowed}
 use Rattle.claims.specs.Claims.{leftCells, reduceSlip, reduceShort, Wrote, ZeroTells, Eight, RefusalsTell}
 use Rattle.claims.proofs.Slips.{named}
@@ -34,11 +35,11 @@ use Rattle.claims.proofs.Paired.{pairRows, same-left}
 
 -- ---- the answer 0
 
-room-there : (room : ℕ) (file : List ℕ) → shortOutput ((room, length file) ∷ []) ≡ false → length file ≤ room
+room-there : (room : ℕ) (file : List ℕ) → shortOutput ((room, file) ∷ []) ≡ false → length file ≤ room
 unfolding shortOutput
 room-there room file e = ltb-false room (length file) (or-none _ _ e .0)
 
-rooms-there : (r s : ℕ) (f g : List ℕ) → shortOutput ((r, length f) ∷ (s, length g) ∷ []) ≡ false
+rooms-there : (r s : ℕ) (f g : List ℕ) → shortOutput ((r, f) ∷ (s, g) ∷ []) ≡ false
     → (length f ≤ r) × (length g ≤ s)
 unfolding shortOutput
 rooms-there r s f g e =
@@ -46,7 +47,7 @@ rooms-there r s f g e =
     (ltb-false r (length f) (a .0), ltb-false s (length g) (or-none _ _ (a .1) .0))
 
 -- from the rows of a call with one output
-wrote : {file lent : List ℕ} {room i : ℕ} → fewWords lent ≡ false → shortOutput ((room, length file) ∷ []) ≡ false
+wrote : {file lent : List ℕ} {room i : ℕ} → fewWords lent ≡ false → shortOutput ((room, file) ∷ []) ≡ false
     → i ∷ [] ≡ length file ∷ [] → Wrote file lent room i
 wrote {file} {lent} {room} few r v =
     record { words = few; fits = room-there room file r; value = ap (λ (vs : List ℕ). getD vs 0 0) v }
@@ -62,7 +63,7 @@ steps-there list slip h = go (stepsOn list (stepsOf slip)) refl
         (sym (ap (λ (o : Option (List Step)). not (elim o [ none ↦ false | some ss ↦ true ])) e) ∙ h))
     go (some ss) e = (ss, e)
 
-allowed-of : (list slip : List ℕ) → AcceptedList list → badSlip (cellsOf list) slip ≡ false
+allowed-of : (list slip : List ℕ) → AcceptedList list → badSlip rules (cellsOf list) slip ≡ false
     → disallowed (stand list) slip ≡ false → Allowed list slip
 allowed-of list slip h f s =
     let t = steps-there list slip s in
@@ -135,17 +136,19 @@ some-not list slip h = (
 -- of a call whose rows after those of the list are 7, 8 and others
 eight : (list slip : List ℕ) (more : ℕ → List Row) (values : List ℕ)
     → ((room : ℕ) → All (λ (r : Row). r .0 ≢ 8) (more room))
-    → Eight list slip (λ lent room. answer (first (callRows list lent (slipRows list slip ++ more room))) values)
+    → Eight list slip (λ lent room. answer (first (callRows (fewWords lent) list ++ (slipRows list slip ++ more room)))
+    values)
 eight list slip more values p lent room = (
   (λ e. let s = just .0 e in (s .0, s .1, s .2 .0, some-not list slip (s .1) .0 (s .3))),
   (λ s. just .1 (s .0, s .1, (s .2, tt), some-not list slip (s .1) .1 (s .3))),
 )
   where
-    just : (answer (first (callRows list lent (slipRows list slip ++ more room))) values ≡ (8, []))
-        ↔ ((fewWords lent ≡ false) × AcceptedList list × ((badSlip (cellsOf list) slip ≡ false) × Unit {0})
+    just : (answer (first (callRows (fewWords lent) list ++ (slipRows list slip ++ more room))) values ≡ (8, []))
+        ↔ ((fewWords lent ≡ false) × AcceptedList list × ((badSlip rules (cellsOf list) slip ≡ false) × Unit {0})
         × (disallowed (stand list) slip ≡ true))
     just =
-        call-refused list lent ((7, badSlip (cellsOf list) slip) ∷ []) (more room) 8 (disallowed (stand list) slip)
+        call-refused list lent ((7, badSlip rules (cellsOf list) slip) ∷ []) (more room) 8 (disallowed (stand list)
+        slip)
         values (omega arith) ((λ e. omega arith), tt) (p room)
 
 -- what holds just where a test fails does not hold just where it passes

@@ -1,7 +1,7 @@
 -- The hypotheses of demand 3 are met (`met`): by a well-formed list, by steps that are allowed and by pairings of the
 -- short list, each written. What replay, lift and reduce write (`replay-claim`, `lift-claim`, `reduce-claim`). Assumes
 -- nothing.
-use mathlib.Core.Path.{_≡_, ap, _∙_}
+use mathlib.Core.Path.{_≡_, sym, ap, subst, _∙_}
 use mathlib.Core.Bool.{false, not}
 use mathlib.Core.List.{List, [], _∷_, map}
 use Prim.Native.Nat.{ℕ, _≤_, _<_}
@@ -10,7 +10,7 @@ use lib.ListN.{length}
 use borrow.Author.Tests.{le-ltb}
 use Rattle.matching.specs.Lists.{All}
 use Rattle.matching.specs.Pairs.{Pair}
-use Rattle.matching.specs.Listed.{Entry, joined}
+use Rattle.matching.specs.Listed.{Entry, joined, points}
 use Rattle.matching.specs.Steps.{Rule, Step, name}
 use Rattle.matching.specs.Slip.{AreSteps, lift}
 use Rattle.matching.proofs.Alls.{all-map}
@@ -18,9 +18,11 @@ use Rattle.matching.proofs.Pairing.{pairing-is}
 use Rattle.matching.proofs.Published.{weightless, slip-published}
 use Rattle.matching.proofs.Reduce.{replay-is, carried-sum, reduce-in-turn}
 use Rattle.matching.proofs.Ways.{slip-lifts}
-use Rattle.cellfile.specs.Files.{cellsOf, pairsOf}
-use Rattle.checks.specs.Refusals.{fewWords, shortOutput}
+use Rattle.cellfile.specs.Files.{cellsOf, entriesAll, pairsOf}
+use Rattle.cellfile.proofs.Lists.{view-all}
+use Rattle.checks.specs.Refusals.{fewWords, badPairing, shortOutput}
 use Rattle.checks.proofs.Layers.{call-passes}
+use Rattle.weighing.specs.Weigh.{weighing}
 use Rattle.weighing.proofs.Weights.{weigh-passes}
 use Rattle.checks.proofs.Written.{list-passes, list-cells, list-written}
 use Rattle.starting.specs.Steps.{graphIn, reduceSteps}
@@ -31,8 +33,8 @@ use Rattle.reduction.proofs.Reducing.{reduce-allowed}
 use Rattle.lifting.specs.Calls.{pairFile, liftFile}
 use Rattle.lifting.proofs.Filing.{file-read, file-pairing, file-formed, file-longest, all-entries}
 use Rattle.claims.specs.Demand.{AcceptedList, storeOf, shortOf, PairingOf, Allowed, Liftable}
-use Rattle.claims.specs.Claims.{WellFormed, ListClaim, SlipClaim, PairingClaim, Met, ReplayClaim, LiftClaim}
-use Rattle.claims.specs.Claims.{reduceSlip, reduceShort, ReduceClaim}
+use Rattle.claims.specs.Claims.{WellFormed, listFile, ListClaim, SlipClaim, PairingClaim, Met, ReplayClaim}
+use Rattle.claims.specs.Claims.{LiftClaim, reduceSlip, reduceShort, ReduceClaim}
 use Rattle.claims.proofs.Slips.{slip-names, slip-allowed, slip-longest, short-longest, rs, same-file, short-is}
 use Rattle.claims.proofs.Slips.{carried-is, cells-are, replay-longest, short-entries-graph, pairing-after}
 use Rattle.claims.proofs.Demand.{reduceRows, same-lifted, store-pairing, lifted-is, demand-three}
@@ -45,7 +47,7 @@ well-formed n es h =
     record {
       accepted = list-passes n es (h .cells) (h .count) (h .ascends) small;
       cells = list-cells n es (h .cells) (h .count) (h .ascends) small;
-      entries = list-written n es (h .cells) (h .count) (h .ascends) small;
+      entries = view-all (listFile n es) ∙ list-written n es (h .cells) (h .count) (h .ascends) small;
     }
 
 every-slip : (list : List ℕ) → AcceptedList list → (rs : List (Rule × ℕ)) (ss : List Step)
@@ -95,6 +97,16 @@ replay-claim list slip h = record {
   longest = replay-longest list slip h;
 }
 
+-- weigh of a pairing of the entries in view
+weighs-in-view : (list pairing lent : List ℕ) → fewWords lent ≡ false → AcceptedList list
+    → badPairing (cellsOf list) pairing ≡ false → PairingOf (storeOf list) (pairsOf pairing)
+    → weighing list pairing lent ≡ (0, points (storeOf list) (pairsOf pairing) ∷ [])
+weighs-in-view list pairing lent enough h formed p =
+    weigh-passes list pairing lent enough h formed
+    (ap not (pairing-is (joined (entriesAll list)) (pairsOf pairing)
+    (subst (λ (es : List Entry). PairingOf es (pairsOf pairing)) (view-all list) p)))
+    ∙ ap (λ (es : List Entry). (0, points es (pairsOf pairing) ∷ [])) (sym (view-all list))
+
 pub lift-claim : (list slip pairing : List ℕ) (h : Allowed list slip) → Liftable list slip pairing
     → LiftClaim list slip pairing (h .steps)
 lift-claim list slip pairing h p =
@@ -111,9 +123,7 @@ lift-claim list slip pairing h p =
         lifted-is list slip h pairing p,
       );
       weighs = λ lent enough. (
-          weigh-passes list (liftFile list slip pairing) lent enough (h .accepted)
-          (keeps .formed)
-          (ap not (pairing-is (joined (storeOf list)) (pairsOf (liftFile list slip pairing)) (keeps .pairs)))
+          weighs-in-view list (liftFile list slip pairing) lent enough (h .accepted) (keeps .formed) (keeps .pairs)
           ∙ ap (λ (i : ℕ). (0, i ∷ [])) (keeps .exact)
           );
       longest = omega (arith, ap length (same-lifted list slip h pairing p), file-longest le g up held);

@@ -19,11 +19,11 @@ use Rattle.matching.proofs.Demand.{no-gain-no-loss}
 use Rattle.cellfile.specs.Files.{cellsOf, stepsOf, pairsOf, asName}
 use Rattle.checks.specs.Refusals.{Row, badPairing, noPairing, shortOutput}
 use Rattle.checks.proofs.Layers.{call-passes}
-use Rattle.starting.specs.Steps.{graphIn, stand}
+use Rattle.starting.specs.Steps.{graphIn, stand, slipRows}
 use Rattle.reduction.specs.Calls.{replayShort, replaying}
 use Rattle.checks.proofs.Accepted.{accepted-list}
 use Rattle.starting.proofs.OnList.{list-graph}
-use Rattle.lifting.specs.Calls.{graphAfter, liftedFile, bySteps, slipRows, liftFile, lifting}
+use Rattle.lifting.specs.Calls.{graphAfter, liftedFile, bySteps, liftFile, lifting}
 use Rattle.matching.specs.Solve.{solution}
 use Rattle.solving.proofs.Solution.{solution-heaviest}
 use Rattle.lifting.proofs.Filing.{file-read, file-formed, all-entries, lifted-pairing, heaviest-lifted}
@@ -36,9 +36,9 @@ use Rattle.claims.proofs.Slips.{after-pairing, heaviest-after, after-he
 -- ---- refusal 12, and the rows of the calls after those of the list
 
 abbrev pub roomRow : ℕ → List ℕ → Row
-roomRow room file = (12, shortOutput ((room, length file) ∷ []))
+roomRow room file = (12, shortOutput ((room, file) ∷ []))
 
-pub room-enough : (room : ℕ) (file : List ℕ) → length file ≤ room → shortOutput ((room, length file) ∷ []) ≡ false
+pub room-enough : (room : ℕ) (file : List ℕ) → length file ≤ room → shortOutput ((room, file) ∷ []) ≡ false
 unfolding shortOutput
 room-enough room file l = rw (le-ltb room (length file) l)
 
@@ -53,7 +53,7 @@ liftRows list slip pairing room =
 
 abbrev pub reduceRows : (list : List ℕ) (slipRoom shortRoom : ℕ) → List Row
 reduceRows list slipRoom shortRoom =
-    (12, shortOutput ((slipRoom, length (reduceSlip list)) ∷ (shortRoom, length (reduceShort list)) ∷ [])) ∷ []
+    (12, shortOutput ((slipRoom, reduceSlip list) ∷ (shortRoom, reduceShort list) ∷ [])) ∷ []
 
 -- ---- a slip that is allowed
 

@@ -10,6 +10,7 @@ use mathlib.Core.Option.{Option, some, none}
 use Prim.Native.Nat.{ℕ, _+_, _≤_, _<_}
 use native.Mathlib.Omega.{arith}
 use lib.ListN.{length, getD, length-map}
+use Rattle.cellfile.specs.Words.{pointsRoom}
 use Rattle.matching.specs.Lists.{any}
 use Rattle.matching.specs.Pairs.{Pair, Points}
 use Rattle.matching.specs.Pairing.{Pairing, Heaviest}
@@ -23,10 +24,10 @@ use Rattle.matching.proofs.Short.{short-heaviest, heaviest-short}
 use Rattle.matching.proofs.Entries.{joined-graph}
 use Rattle.matching.proofs.Reduce.{replay-fits, replay-is}
 use Rattle.matching.proofs.Demand.{short-fewer}
-use Rattle.cellfile.specs.Files.{File, storeList, shortList as shortLayout, slip as slipLayout, cellsOf, entriesOf}
+use Rattle.cellfile.specs.Files.{File, shortList as shortLayout, slip as slipLayout, cellsOf, inView}
 use Rattle.cellfile.specs.Files.{asFields, asPair, stepsOf, carriedOf, asName, numberOf, nameFields}
 use Rattle.cellfile.specs.Fits.{FitsFields, FitsFile}
-use Rattle.checks.specs.Refusals.{noRule, badSlip}
+use Rattle.checks.specs.Refusals.{noRule, rules, badSlip}
 use Rattle.cellfile.proofs.All.{all-values}
 use Rattle.cellfile.proofs.RoundTrip.{read-write, length-file}
 use Rattle.checks.proofs.Written.{cells-read, entries-written, steps-read, slip-passes}
@@ -52,12 +53,12 @@ number-fits by-leaf = omega arith
 number-fits by-ring = omega arith
 number-fits by-chain = omega arith
 
-has-rule : (r : Rule) → noRule (numberOf r) ≡ false
+has-rule : (r : Rule) → noRule rules (numberOf r) ≡ false
 has-rule by-leaf = refl
 has-rule by-ring = refl
 has-rule by-chain = refl
 
-have-rules : (ss : List Step) → any (λ (t : ℕ × ℕ). noRule (t .0)) (map asPair (map nameFields ss)) ≡ false
+have-rules : (ss : List Step) → any (λ (t : ℕ × ℕ). noRule rules (t .0)) (map asPair (map nameFields ss)) ≡ false
 have-rules [] = refl
 have-rules (s ∷ ss) = rw (has-rule (name s .0), have-rules ss)
 
@@ -75,7 +76,7 @@ module _ (list : List ℕ) (h : AcceptedList list) (rs : List (Rule × ℕ)) (ss
   few : n ≤ 1024
   few = accepted-list list h .0
 
-  small : (a b : ℕ) → left (graphIn list) ss a b + carried (graphIn list) ss < 17592186044416
+  small : (a b : ℕ) → left (graphIn list) ss a b + carried (graphIn list) ss < pointsRoom
   small = left-small list h rs ss allowed
 
   abbrev short : List Entry
@@ -85,7 +86,7 @@ module _ (list : List ℕ) (h : AcceptedList list) (rs : List (Rule × ℕ)) (ss
   short-few =
       omega (
         arith,
-        short-fewer n (entriesOf storeList list) (accepted-list list h .1) rs ss allowed,
+        short-fewer n (inView list) (accepted-list list h .1) rs ss allowed,
         list-few list h,
       )
 
@@ -136,8 +137,8 @@ module _ (list : List ℕ) (h : AcceptedList list) (rs : List (Rule × ℕ)) (ss
   }
 
   -- The slip passes refusal 7, and names the steps.
-  pub slip-formed : badSlip (cellsOf list) (slipFile list ss) ≡ false
-  slip-formed = slip-passes slip-of slip-fits (have-rules ss)
+  pub slip-formed : badSlip rules (cellsOf list) (slipFile list ss) ≡ false
+  slip-formed = slip-passes slip-of slip-fits rules (have-rules ss)
 
   pub slip-names : Names list (slipFile list ss) ss
   slip-names =

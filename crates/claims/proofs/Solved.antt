@@ -14,10 +14,10 @@ use Rattle.matching.specs.Slip.{left}
 use Rattle.cellfile.specs.Files.{cellsOf, pairsOf}
 use Rattle.checks.specs.Refusals.{Row, badPairing, crowded}
 use Rattle.checks.proofs.Layers.{call-passes}
-use Rattle.starting.specs.Steps.{graphIn}
+use Rattle.starting.specs.Steps.{graphIn, slipRows}
 use Rattle.reduction.specs.Calls.{replayShort}
 use Rattle.checks.proofs.Accepted.{accepted-list}
-use Rattle.lifting.specs.Calls.{pairFile, graphAfter, solvedFile, bySteps, slipRows, solveFile, solving}
+use Rattle.lifting.specs.Calls.{pairFile, graphAfter, solvedFile, bySteps, solveFile, solving}
 use Rattle.matching.specs.Solve.{solution}
 use Rattle.solving.proofs.Solution.{solution-filed, solution-heaviest, solution-first}
 use Rattle.lifting.proofs.Filing.{file-read, file-formed, file-longest}

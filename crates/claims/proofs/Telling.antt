@@ -8,12 +8,15 @@ use Prim.Native.Nat.{ℕ, zero, suc, _≤_, _<_}
 use native.Mathlib.Omega.{arith}
 use lib.ListN.{length, take, drop, length-replicate}
 use lib.Seq.{take-append-seam}
-use Rattle.cellfile.specs.Files.{onto}
+use Rattle.matching.specs.Listed.{Entry, points}
+use Rattle.cellfile.specs.Files.{onto, pairsOf}
+use Rattle.cellfile.proofs.Lists.{view-all}
 use Rattle.buffers.specs.Buffers.{lent, zeros, Cleared}
-use Rattle.checks.specs.Refusals.{first}
+use Rattle.checks.specs.Refusals.{first, fewWords}
 use Rattle.cellfile.specs.Answers.{Answer, written}
 use Rattle.weighing.specs.Weigh.{weighing}
-use Rattle.checks.proofs.Layers.{callRows, answer-refused}
+use Rattle.checks.specs.Calls.{callRows}
+use Rattle.checks.proofs.Layers.{answer-refused, answer-accepted}
 use Rattle.reduction.specs.Calls.{replayShort, replaying}
 use Rattle.lifting.specs.Calls.{lifting, liftFile}
 use Rattle.claims.specs.Demand.{Allowed, Liftable}
@@ -21,7 +24,7 @@ use Rattle.claims.specs.Claims.{Wrote}
 use Rattle.claims.specs.Asking.{asked, andThen, lifts as liftsAfter, asking, Told, Tells}
 use Rattle.claims.specs.declared.Asked.{Asked}
 use Rattle.claims.specs.declared.Asked.the-variants.{Refused, Answered}
-use Rattle.claims.proofs.Demand.{replayRows, demand-three}
+use Rattle.claims.proofs.Demand.{replayRows, liftRows, demand-three}
 use Rattle.claims.proofs.Answers.{zero-tells}
 
 -- A file is read again from the output that it was written to.
@@ -112,6 +115,14 @@ module _ (g : Given) where
       → short′ ≡ written (replays .0) short-file (g .short)
   short-out r = r .1 .0 ∙ ap (λ (y : Answer). written (y .0) short-file (g .short)) (r .0)
 
+  -- replay answers one length
+  pub replay-one : {x : Answer} {i j : ℕ} {short′ a′ b′ : List ℕ} → x ≡ (0, i ∷ j ∷ []) → ReplayDid x short′ a′ b′ → ⊥
+  replay-one {i = i} {j = j} e r =
+      let is = answer-accepted
+      (first (callRows (fewWords words) (g .list) ++ replayRows (g .list) (g .slip) (length (g .short)))) (i ∷ j ∷ [])
+      (length short-file ∷ []) (sym e ∙ r .0) in
+      omega (arith, ap length (is .1))
+
   -- ---- replay refuses
 
   refused-first : {k : ℕ} {short′ a′ b′ : List ℕ} → ReplayDid (k, []) short′ a′ b′
@@ -127,7 +138,8 @@ module _ (g : Given) where
       positive : 0 < k
       positive =
           let q =
-          answer-refused (first (callRows (g .list) words (replayRows (g .list) (g .slip) (length (g .short))))) k
+          answer-refused (first (callRows (fewWords words) (g .list) ++ replayRows (g .list) (g .slip) (length (g
+          .short)))) k
           (length short-file) [] (r .0) in omega (arith, q .0, q .1)
 
       stays : (k : ℕ) → 0 < k → g .lifted ≡ after-lift k
@@ -163,6 +175,14 @@ module _ (g : Given) where
       l .1 .0 ∙ sym (ap (λ (x : Answer). after-lift (x .0)) (lifts-here l))
           ∙ ap (λ (x : Answer). after-lift (andThen x (λ i. lifts) .0)) (r .0),
     )
+
+    pub lift-one : {z : Answer} {j k : ℕ} {lifted′ a″ b″ : List ℕ} → z ≡ (0, j ∷ k ∷ [])
+        → LiftDid a′ b′ z lifted′ a″ b″ → ⊥
+    lift-one {j = j} {k = k} f l =
+        let is = answer-accepted (first (callRows (fewWords (lent a′ b′)) (g .list)
+        ++ liftRows (g .list) (g .slip) (g .pairing) (length (g .lifted)))) (j ∷ k ∷ []) (length lift-file ∷ [])
+        (sym f ∙ l .0) in
+        omega (arith, ap length (is .1))
 
     pub lift-refused : {y : Answer} {k : ℕ} {lifted′ a″ b″ : List ℕ} → y ≡ (k, []) → LiftDid a′ b′ y lifted′ a″ b″
         → Promised (Refused k) short′ lifted′ a″ b″
@@ -230,6 +250,7 @@ module _ (g : Given) where
                 exactly =
                     zero-tells .weigh (g .list) lift-file (lent a″ b″) p
                     (ap (λ (f : List ℕ). weighing (g .list) f (lent a″ b″)) (sym lifted-again) ∙ sym (v .0) ∙ d) .3
+                    ∙ ap (λ (es : List Entry). points es (pairsOf lift-file)) (sym (view-all (g .list)))
                     ∙ keeps .exact;
                 short-keeps = three .1;
                 lift-keeps = keeps;

@@ -18,8 +18,9 @@ use Rattle.matching.specs.Steps.{Rule, Step}
 use Rattle.matching.specs.Ties.{Lifts}
 use Rattle.matching.specs.Published.{Rule23, AllPublished}
 use Rattle.matching.specs.Slip.{AreSteps, SomeStepNot, left, carries, InTurn}
-use Rattle.cellfile.specs.Files.{storeList, largest, cellsOf, stepsOf, pairsOf, carriedOf, asFields, writeFile, asName}
-use Rattle.checks.specs.Refusals.{fewWords, badSlip, badPairing}
+use Rattle.cellfile.specs.Files.{storeList, largest, cellsOf, entriesAll, stepsOf, pairsOf, carriedOf, asFields}
+use Rattle.cellfile.specs.Files.{writeFile, asName}
+use Rattle.checks.specs.Refusals.{fewWords, rules, badSlip, badPairing}
 use Rattle.cellfile.specs.Answers.{Answer}
 use Rattle.weighing.specs.Weigh.{weighing}
 use Rattle.starting.specs.Steps.{graphIn, reduceSteps}
@@ -55,7 +56,7 @@ pub record ZeroTells : Type 0 where
       → Allowed list slip × Liftable list slip pairing × Wrote (liftFile list slip pairing) lent room i
   pub weigh : (list pairing lent : List ℕ) (p : ℕ) → weighing list pairing lent ≡ (0, p ∷ [])
       → AcceptedList list × (badPairing (cellsOf list) pairing ≡ false)
-      × PairingOf (storeOf list) (pairsOf pairing) × (p ≡ points (storeOf list) (pairsOf pairing))
+      × PairingOf (entriesAll list) (pairsOf pairing) × (p ≡ points (entriesAll list) (pairsOf pairing))
   pub reduce : (list lent : List ℕ) (slipRoom shortRoom i j : ℕ)
       → reducing list lent slipRoom shortRoom ≡ (0, i ∷ j ∷ [])
       → AcceptedList list × Wrote (reduceSlip list) lent slipRoom i × Wrote (reduceShort list) lent shortRoom j
@@ -68,7 +69,7 @@ pub record ZeroTells : Type 0 where
 abbrev pub Eight : (list slip : List ℕ) → (List ℕ → ℕ → Answer) → Type 0
 Eight list slip call =
     (lent : List ℕ) (room : ℕ) → (call lent room ≡ (8, []))
-    ↔ ((fewWords lent ≡ false) × AcceptedList list × (badSlip (cellsOf list) slip ≡ false)
+    ↔ ((fewWords lent ≡ false) × AcceptedList list × (badSlip rules (cellsOf list) slip ≡ false)
     × SomeStepNot (cellsOf list) (graphIn list) (map asName (stepsOf slip)))
 
 -- 10 just where the pairing is not one of the short list, 11 just where 'more than 12 cells have pairs left', and

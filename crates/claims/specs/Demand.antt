@@ -14,9 +14,9 @@ use Rattle.matching.specs.Pairing.{Pairing, Heaviest}
 use Rattle.matching.specs.Listed.{Entry, joined, listed, points}
 use Rattle.matching.specs.Steps.{Step}
 use Rattle.matching.specs.Slip.{AreSteps}
-use Rattle.cellfile.specs.Files.{storeList, shortList as shortLayout, cellsOf, entriesOf, stepsOf, pairsOf, carriedOf}
+use Rattle.cellfile.specs.Files.{shortList as shortLayout, cellsOf, entriesOf, stepsOf, pairsOf, carriedOf, inView}
 use Rattle.cellfile.specs.Files.{asName}
-use Rattle.checks.specs.Refusals.{first, fewWords, listRows, badSlip, badPairing}
+use Rattle.checks.specs.Refusals.{first, fewWords, lists, listRows, rules, badSlip, badPairing}
 use Rattle.cellfile.specs.Answers.{Answer}
 use Rattle.starting.specs.Steps.{graphIn}
 use Rattle.reduction.specs.Calls.{replayShort, replaying}
@@ -26,10 +26,10 @@ use Rattle.lifting.specs.Calls.{liftFile, lifting}
 
 -- 'An accepted list passes refusals 2 to 6; it is the store.'
 abbrev pub AcceptedList : List ℕ → Type 0
-AcceptedList list = first (listRows storeList list) ≡ 0
+AcceptedList list = first (listRows lists list) ≡ 0
 
 abbrev pub storeOf : List ℕ → List Entry
-storeOf list = entriesOf storeList list
+storeOf list = inView list
 
 -- The entries of a short list's file.
 abbrev pub shortOf : List ℕ → List Entry
@@ -59,7 +59,7 @@ Writes call file =
 -- refusals 2 to 8 say nothing.
 pub record Allowed (list slip : List ℕ) : Type 0 where
   pub accepted : AcceptedList list
-  pub formed : badSlip (cellsOf list) slip ≡ false
+  pub formed : badSlip rules (cellsOf list) slip ≡ false
   pub steps : List Step
   pub stand : Names list slip steps
 

@@ -1,8 +1,7 @@
 // What the calls promise together, of the files that they read and write: specs/Demand and specs/Claims, with the laws
 // in proofs/. One function, private and for no caller but the reader: replay, lift and weigh on one list, slip and
 // pairing, and demand 3 of what they themselves answer and write (specs/Asking).
-use lifting::Paired;
-use reduction::Replayed;
+use checks::Lengths;
 use weighing::Weighed;
 ghost use mathlib.Core.Path.{_≡_};
 ghost use lib.ListN.{length};
@@ -23,7 +22,8 @@ pub enum Asked {
     },
 }
 
-// Replays the slip, lifts the pairing and weighs what is lifted. Every word of the work buffers is zero afterwards.
+// Replays the slip, lifts the pairing and weighs what is lifted; replay and lift answer one length, never two. Every
+// word of the work buffers is zero afterwards.
 fn ask(
     list: &[u8],
     slip: &[u8],
@@ -49,10 +49,10 @@ fn ask(
         × Cleared (now («work_b» .entry)) (now («work_b» .exit)) ⌝ }
 {
     match reduction::replay(list, slip, work_a, work_b, short) {
-        Replayed::Refused(k) => Asked::Refused(k),
-        Replayed::Length(i) => match lifting::lift(list, slip, pairing, work_a, work_b, lifted) {
-            Paired::Refused(k) => Asked::Refused(k),
-            Paired::Length(j) => match weighing::weigh(list, &lifted[..j], work_a, work_b) {
+        Lengths::Refused(k) => Asked::Refused(k),
+        Lengths::One(i) => match lifting::lift(list, slip, pairing, work_a, work_b, lifted) {
+            Lengths::Refused(k) => Asked::Refused(k),
+            Lengths::One(j) => match weighing::weigh(list, &lifted[..j], work_a, work_b) {
                 Weighed::Refused(k) => Asked::Refused(k),
                 Weighed::Points(p) => Asked::Answered {
                     short: i,
@@ -60,6 +60,8 @@ fn ask(
                     points: p,
                 },
             },
+            Lengths::Two { .. } => Asked::Refused(0),
         },
+        Lengths::Two { .. } => Asked::Refused(0),
     }
 }

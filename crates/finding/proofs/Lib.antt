@@ -5,4 +5,5 @@ pub mod Ways
 pub mod Rowed
 pub mod Lower
 pub mod Scans
+pub mod Told
 pub mod Gone

@@ -8,6 +8,7 @@ use Prim.Native.Nat.{ℕ, suc, _+_, _≤_, _<_}
 use native.Mathlib.Omega.{arith}
 use lib.ListN.{length, set, take, drop, length-append, length-drop}
 use lib.Seq.{take-set-le, take-suc-set, drop-set-lt, drop-set-add}
+use Rattle.buffers.specs.Map.{trailRoom, atNames}
 use Rattle.matching.specs.Pairs.{Points}
 use Rattle.matching.specs.Steps.{leaf, apply}
 use Rattle.slots.specs.Slots.{Aside}
@@ -36,34 +37,34 @@ module _ (f : ℕ → ℕ) (s : ℕ) (w : List ℕ) where
 pub words-start : (t k u : ℕ) (w2 : List ℕ) → Words t k u [] w2 w2
 words-start t k u w2 = record {
   trail = part-start (λ v. closing 1 u v 0 0 0) t w2;
-  names = part-start (λ v. 1024 + v) k (drop 6144 w2);
+  names = part-start (λ v. 1024 + v) k (drop atNames w2);
 }
 
 module _ {t k u : ℕ} {cells w2 w2′ : List ℕ} (h : Words t k u cells w2 w2′) (room : 8192 ≤ length w2′)
-    (tr : t + length cells < 4096) (nr : k + length cells < 1024) where
+    (tr : t + length cells < trailRoom) (nr : k + length cells < 1024) where
   pub words-on : (v : ℕ)
       → Words t k u (cells ++ v ∷ []) w2
-      (set (set w2′ (t + length cells) (closing 1 u v 0 0 0)) (6144 + (k + length cells)) (1024 + v))
+      (set (set w2′ (t + length cells) (closing 1 u v 0 0 0)) (atNames + (k + length cells)) (1024 + v))
   words-on v = record {
     trail =
         take-set-le (t + length (cells ++ v ∷ [])) (set w2′ (t + length cells) (closing 1 u v 0 0 0))
-        (6144 + (k + length cells)) (1024 + v) (omega (arith, length-append cells (v ∷ [])))
+        (atNames + (k + length cells)) (1024 + v) (omega (arith, length-append cells (v ∷ [])))
         ∙ part-on (λ x. closing 1 u x 0 0 0) t w2 w2′ cells v (h .trail) (omega arith);
     names =
         ap (take (k + length (cells ++ v ∷ [])))
-        (drop-set-add 6144 (set w2′ (t + length cells) (closing 1 u v 0 0 0)) (k + length cells) (1024 + v)
+        (drop-set-add atNames (set w2′ (t + length cells) (closing 1 u v 0 0 0)) (k + length cells) (1024 + v)
         ∙ ap (λ ws. set ws (k + length cells) (1024 + v))
-        (drop-set-lt 6144 w2′ (t + length cells) (closing 1 u v 0 0 0) (omega arith)))
-        ∙ part-on (λ x. 1024 + x) k (drop 6144 w2) (drop 6144 w2′) cells v (h .names)
-        (omega (arith, length-drop 6144 w2′));
+        (drop-set-lt atNames w2′ (t + length cells) (closing 1 u v 0 0 0) (omega arith)))
+        ∙ part-on (λ x. 1024 + x) k (drop atNames w2) (drop atNames w2′) cells v (h .names)
+        (omega (arith, length-drop atNames w2′));
   }
 
 -- words aside of these
 pub words-kept : {t k u : ℕ} {cells w2 w2′ w2″ : List ℕ} → Words t k u cells w2 w2′ → Aside w2′ w2″
-    → length w2″ ≡ length w2′ → 8192 ≤ length w2′ → t + length cells ≤ 4096 → Words t k u cells w2 w2″
+    → length w2″ ≡ length w2′ → 8192 ≤ length w2′ → t + length cells ≤ trailRoom → Words t k u cells w2 w2″
 words-kept {t} {k} {u} {cells} {w2} {w2′} {w2″} h a l room tr = record {
   trail = take-same w2′ w2″ (t + length cells) l (omega arith) (λ j m. a j (inl (omega arith))) ∙ h .trail;
-  names = ap (take (k + length cells)) (drop-same w2′ w2″ 6144 l (λ j m. a j (inr m))) ∙ h .names;
+  names = ap (take (k + length cells)) (drop-same w2′ w2″ atNames l (λ j m. a j (inr m))) ∙ h .names;
 }
 
 -- the trail of leaf steps

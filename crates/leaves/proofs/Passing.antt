@@ -8,6 +8,7 @@ use mathlib.Core.List.{List, [], _∷_, _++_}
 use Prim.Native.Nat.{ℕ, _+_, _≤_, _<_}
 use native.Mathlib.Omega.{arith}
 use lib.ListN.{length, set, length-append}
+use Rattle.buffers.specs.Map.{atNames}
 use Rattle.matching.specs.Pairs.{Points}
 use Rattle.matching.specs.Graph.{degree}
 use Rattle.matching.proofs.Tests.{Test, pass, fail, eqT}
@@ -56,19 +57,19 @@ module _ {n e u c₀ t k most : ℕ} {w1 w2 : List ℕ} (h : LeafRunThere n e u 
       }
 
       pub running-take : p < q → j < most → {w2″ : List ℕ}
-          → w2″ ≡ set (set w2′ (t + j) (closing 1 u c 0 0 0)) (6144 + (k + j)) (1024 + c)
+          → w2″ ≡ set (set w2′ (t + j) (closing 1 u c 0 0 0)) (atNames + (k + j)) (1024 + c)
           → Running n e u room t k most w1 w2 w2″ (c + 1) q (j + 1)
       running-take l m {w2″} e″ = record {
         cells = s .cells ++ c ∷ [];
         holds =
             subst (Holds e w1) (sym e″)
-            (holds-aside (holds-aside (s .holds) (t + j) _ (inl (omega (arith, h .trail-room)))) (6144 + (k + j)) _
+            (holds-aside (holds-aside (s .holds) (t + j) _ (inl (omega (arith, h .trail-room)))) (atNames + (k + j)) _
             (inr (omega arith)));
         slack = s .slack;
         owing = owing-take (h .graph) (h .cells) (s .slack) (s .owing) due less l;
         words =
             subst (Words t k u (s .cells ++ c ∷ []) w2)
-            (ap (λ i. set (set w2′ (t + i) (closing 1 u c 0 0 0)) (6144 + (k + i)) (1024 + c)) (sym (s .count))
+            (ap (λ i. set (set w2′ (t + i) (closing 1 u c 0 0 0)) (atNames + (k + i)) (1024 + c)) (sym (s .count))
             ∙ sym e″)
             (words-on (s .words) (holds-room (s .holds) .1) (omega (arith, s .count, h .trail-room))
             (omega (arith, s .count, h .names-room)) c);

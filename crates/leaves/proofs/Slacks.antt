@@ -8,6 +8,7 @@ use mathlib.Core.List.{List, [], _∷_}
 use Prim.Native.Nat.{ℕ, suc, _+_, _-_, _≤_, _<_, min}
 use native.Mathlib.Omega.{arith}
 use lib.ListN.{getD}
+use Rattle.buffers.specs.Map.{unit}
 use Rattle.matching.specs.Pairs.{touches}
 use Rattle.matching.specs.Graph.{degree}
 use Rattle.matching.proofs.Members.{clash}
@@ -38,7 +39,7 @@ due-here {e} {w1} h {u} {c} {r} o q =
 pub record Slacks (e : ℕ) (w1 : List ℕ) (u least most i : ℕ) : Type 0 where
   pub top : i ≤ e
   pub has : (k : ℕ) → i ≡ suc k → touches u (lowOf w1 k) (highOf w1 k) ≡ true
-  pub bound : least ≤ 17592186044416
+  pub bound : least ≤ unit
   pub past : (j : ℕ) → i ≤ j → KeptPoints e w1 u j least
   pub stays : (y : ℕ) × (most ≤ graphOf e w1 u y)
 
@@ -50,7 +51,7 @@ stays-on {e} {w1} h u k l t p =
     (lowOf w1 k + highOf w1 k - u, omega (arith, joins-points h (j .0)))
 
 module _ {e : ℕ} {w1 w2 : List ℕ} (h : Holds e w1 w2) {u : ℕ} where
-  pub slacks-start : {i : ℕ} → LastSlot w1 u e i → Slacks e w1 u 17592186044416 0 i
+  pub slacks-start : {i : ℕ} → LastSlot w1 u e i → Slacks e w1 u unit 0 i
   slacks-start l = record {
     top = l .low;
     has = l .at;

@@ -5,6 +5,7 @@ use mathlib.Core.Logic.{_⊎_, _≢_}
 use mathlib.Core.List.{List, [], _∷_, _++_, map}
 use Prim.Native.Nat.{ℕ, _+_, _≤_, _<_}
 use lib.ListN.{length, getD, take, drop}
+use Rattle.buffers.specs.Map.{trailRoom, atNames, unit}
 use Rattle.matching.specs.Pairs.{Points}
 use Rattle.matching.specs.Graph.{Graph, partners, degree}
 use Rattle.matching.specs.Steps.{Step, leaf}
@@ -25,14 +26,14 @@ KeptPoints e w1 u i r = (f : ℕ) → Joins e w1 i u f → degree 1024 (graphOf 
 
 -- Where the pairs at u lose less than r, only leaves lose theirs, and some pair stays.
 pub record Slack (w : Points) (u r : ℕ) : Type 0 where
-  pub top : r ≤ 17592186044416
+  pub top : r ≤ unit
   pub others : (x : ℕ) → 0 < w u x → degree 1024 w x ≢ 1 → r ≤ w u x
   pub stays : (y : ℕ) × (r ≤ w u y)
 
 -- What c is to a run at u: no leaf; a leaf of u with these points; a leaf of another cell.
 abbrev pub Due : Points → ℕ → ℕ → ℕ → Type 0
 Due w u c r =
-    ((degree 1024 w c ≢ 1) × (r ≡ 0)) ⊎ (((partners 1024 w c ≡ u ∷ []) × (r ≡ w u c)) ⊎ (r ≡ 17592186044416))
+    ((degree 1024 w c ≢ 1) × (r ≡ 0)) ⊎ (((partners 1024 w c ≡ u ∷ []) × (r ≡ w u c)) ⊎ (r ≡ unit))
 
 -- What a run at u from the cell c on asks: no cell below c is a leaf, and there is room for its words.
 pub record LeafRunThere (n e u c t k most : ℕ) (w1 w2 : List ℕ) : Type 0 where
@@ -41,7 +42,7 @@ pub record LeafRunThere (n e u c t k most : ℕ) (w1 w2 : List ℕ) : Type 0 whe
   pub graph : Graph n (graphOf e w1)
   pub quiet : Quiet c (graphOf e w1)
   pub hub : u < 1024
-  pub trail-room : t + most ≤ 4096
+  pub trail-room : t + most ≤ trailRoom
   pub names-room : k + most ≤ 1024
 
 -- The leaf steps at u of some cells; their words on the trail, and as words of a slip.
@@ -57,7 +58,7 @@ leafNames cells = map (λ v. 1024 + v) cells
 -- The words of these steps stand in w2′, which was w2: on the trail from place t on, among the names from place k on.
 pub record Words (t k u : ℕ) (cells w2 w2′ : List ℕ) : Type 0 where
   pub trail : take (t + length cells) w2′ ≡ take t w2 ++ leafWords u cells
-  pub names : take (k + length cells) (drop 6144 w2′) ≡ take k (drop 6144 w2) ++ leafNames cells
+  pub names : take (k + length cells) (drop atNames w2′) ≡ take k (drop atNames w2) ++ leafNames cells
 
 -- After the run, before the pairs at u have lost the points.
 pub record Owes (n e u t k most : ℕ) (w1 w2 w2′ : List ℕ) (r : Owed) : Type 0 where

@@ -4,13 +4,15 @@
 // the points of the last leaf's pair as it was at the start. So the graph stays as it is during a run, and every pair
 // at u loses that much once, at its end.
 use bounds;
+use buffers::map;
 use slots::change;
 use slots::read;
-use trail;
+use trail::words;
 ghost use mathlib.Core.Path.{_≡_};
 ghost use mathlib.Core.Bool.{true};
 ghost use Prim.Native.Nat.{_+_, _<_, _≤_};
 ghost use lib.ListN.{length, set};
+ghost use Rattle.buffers.specs.Map.{trailRoom, atNames};
 ghost use Rattle.matching.specs.Pairs.{touches};
 ghost use Rattle.matching.specs.Graph.{Graph};
 ghost use Rattle.slots.specs.Slots.{Holds, graphOf, lowOf, highOf};
@@ -19,7 +21,7 @@ ghost use Rattle.trail.specs.Trail.{closing};
 ghost use Rattle.leaves.specs.Runs.{FirstLeaf, KeptPoints, Slack, Due, LeafRunThere, Owes, Taken};
 
 // More than any points.
-const ABOVE_ALL: u64 = 17592186044416;
+const ABOVE_ALL: u64 = map::POINTS_UNIT;
 
 // The first cell from `low` on that is a leaf, or one not below n. No cell below `low` is a leaf.
 fn first_leaf(w1: &[u64], w2: &[u64], e: usize, n: usize, low: usize) -> usize
@@ -96,15 +98,13 @@ const LEAF: u64 = 1;
 // How a slip names the leaf step at v, less v.
 const LEAF_NAME: u64 = 1024;
 
-const NAMES: usize = 6144;
-
 // The leaf step at v with its partner u is noted: on the trail at place t, among the names at place k.
 fn note(w2: &mut [u64], t: usize, k: usize, u: usize, v: usize)
-    requires { ⌜ (8192 ≤ length (now w2)) × (t < 4096) × (k < 1024) × (u < 1024) × (v < 1024) ⌝ }
-    ensures { λ _. ⌜ now (w2 .exit) ≡ set (set (now (w2 .entry)) t (closing 1 u v 0 0 0)) (6144 + k) (1024 + v) ⌝ }
+    requires { ⌜ (8192 ≤ length (now w2)) × (t < trailRoom) × (k < 1024) × (u < 1024) × (v < 1024) ⌝ }
+    ensures { λ _. ⌜ now (w2 .exit) ≡ set (set (now (w2 .entry)) t (closing 1 u v 0 0 0)) (atNames + k) (1024 + v) ⌝ }
 {
-    w2[t] = trail::closing_word(LEAF, u, v, 0, 0, 0);
-    w2[NAMES + k] = LEAF_NAME + v as u64;
+    w2[t] = words::closing_word(LEAF, u, v, 0, 0, 0);
+    w2[map::NAMES + k] = LEAF_NAME + v as u64;
 }
 
 // A run so far: the cell where it stands, what the pairs at u are to lose, and its steps.
@@ -213,7 +213,7 @@ pub fn leaf_run(
     most: usize,
 ) -> LeafRun
     requires { ⌜ (Holds e (now w1) (now w2)) × (n ≤ 1024) × Graph n (graphOf e (now w1))
-        × Quiet low (graphOf e (now w1)) × (t + most ≤ 4096) × (k + most ≤ 1024) ⌝ }
+        × Quiet low (graphOf e (now w1)) × (t + most ≤ trailRoom) × (k + most ≤ 1024) ⌝ }
     ensures { λ r. ⌜ Taken n e t k most (now (w1 .entry)) (now (w2 .entry)) (now (w1 .exit)) (now (w2 .exit)) r ⌝ }
 {
     if most == 0 {

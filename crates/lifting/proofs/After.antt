@@ -7,6 +7,7 @@ use mathlib.Core.Option.{some}
 use Prim.Native.Nat.{ℕ, _≤_, _<_}
 use native.Mathlib.Omega.{arith}
 use lib.ListN.{length}
+use Rattle.cellfile.specs.Words.{pointsRoom}
 use Rattle.matching.specs.Pairs.{Pair}
 use Rattle.matching.specs.Pairing.{Pairing}
 use Rattle.matching.specs.Graph.{Graph}
@@ -15,8 +16,8 @@ use Rattle.matching.specs.Slip.{replay}
 use Rattle.matching.proofs.Tally.{cells-most}
 use Rattle.matching.proofs.Reduce.{replay-fits}
 use Rattle.matching.proofs.Demand.{slip-graph}
-use Rattle.cellfile.specs.Files.{storeList, cellsOf}
-use Rattle.checks.specs.Refusals.{first, listRows}
+use Rattle.cellfile.specs.Files.{cellsOf}
+use Rattle.checks.specs.Refusals.{first, lists, listRows}
 use Rattle.starting.specs.Steps.{graphIn}
 use Rattle.running.specs.Running.{After}
 use Rattle.trail.specs.Trail.{Small}
@@ -33,7 +34,7 @@ module _ {n t : ℕ} {w2 : List ℕ} (h : TrailThere n t w2) where
   after-graph =
       slip-graph (h .graph) (h .steps) (replay-fits (h .graph) (map name (h .steps)) (h .steps) (h .allowed) .0)
 
-  pub after-small : (a b : ℕ) → after h a b < 17592186044416
+  pub after-small : (a b : ℕ) → after h a b < pointsRoom
   after-small a b = omega (arith, h .small (map name (h .steps)) (h .steps) (h .allowed) a b)
 
   -- The pairing m in the table, the trail as it was.
@@ -57,7 +58,7 @@ module _ {n t : ℕ} {w2 : List ℕ} (h : TrailThere n t w2) where
     cells-are = refl;
   }
 
-module _ (list : List ℕ) (ok : first (listRows storeList list) ≡ 0) (ss : List Step)
+module _ (list : List ℕ) (ok : first (listRows lists list) ≡ 0) (ss : List Step)
     (stand : replay (cellsOf list) (graphIn list) (map name ss) ≡ some ss)
     {n slots on-trail points steps : ℕ} {w1 w2 : List ℕ} (cells : n ≡ cellsOf list)
     (a : After (graphIn list) ss slots on-trail points steps w1 w2) where

@@ -23,8 +23,8 @@ use Rattle.matching.proofs.Entries.{joined-graph, list-pairing, list-trimmed}
 use Rattle.matching.proofs.Fits.{Stands}
 use Rattle.matching.proofs.Reduce.{replay-fits}
 use Rattle.matching.proofs.Demand.{slip-lifted, slip-brought, no-gain-no-loss}
-use Rattle.cellfile.specs.Files.{storeList, pairing as pairingLayout, cellsOf, entriesOf, pairsOf, pairFields}
-use Rattle.checks.specs.Refusals.{first, listRows, badPairing}
+use Rattle.cellfile.specs.Files.{pairing as pairingLayout, cellsOf, pairsOf, pairFields, inView}
+use Rattle.checks.specs.Refusals.{first, lists, listRows, badPairing}
 use Rattle.cellfile.proofs.RoundTrip.{length-file}
 use Rattle.checks.proofs.Written.{pairs-read, pairing-passes}
 use Rattle.starting.specs.Steps.{graphIn, reduceSteps}
@@ -85,12 +85,12 @@ module _ {n : ℕ} {w : Points} (le : n ≤ 1024) (g : Graph n w) where
 
 -- ---- what is lifted by steps that are allowed
 
-module _ (list : List ℕ) (h : first (listRows storeList list) ≡ 0) where
+module _ (list : List ℕ) (h : first (listRows lists list) ≡ 0) where
   abbrev n : ℕ
   n = cellsOf list
 
   abbrev store : List Entry
-  store = entriesOf storeList list
+  store = inView list
 
   -- the graph of all entries
   pub all-entries : Graph n (joined store)

@@ -13,7 +13,7 @@ use Rattle.cellfile.specs.Words.{fileOf, pairWord}
 use Rattle.cellfile.proofs.Fields.{fields-packed}
 use Rattle.cellfile.proofs.RoundTrip.{length-file}
 use Rattle.checks.specs.Answering.{Does}
-use Rattle.checks.proofs.Answering.{no-room, rooms}
+use Rattle.checks.proofs.Answering.{no-room, all-room}
 use Rattle.lifting.specs.Ending.{wordsFile}
 
 pairs-length : (n r : ℕ) (w1 : List ℕ) → r ≤ length w1 → 4 + 3 * r ≡ length (wordsFile n r w1)
@@ -34,7 +34,7 @@ module _ (n r : ℕ) (w1 out : List ℕ) (l : r ≤ length w1) where
       → Does [] ((wordsFile n r w1, out, out′) ∷ []) (0, (4 + 3 * r) ∷ [])
   pairs-written {out′} m e =
       rw (pairs-length n r w1 l)
-      (rooms ((wordsFile n r w1, out, out′) ∷ []) (omega (arith, pairs-length n r w1 l), tt) (e, tt))
+      (all-room ((wordsFile n r w1, out, out′) ∷ []) (omega (arith, pairs-length n r w1 l), tt) (e, tt))
 
 pub pairs-file : (n r : ℕ) (w1 : List ℕ) (m : List Pair) → take r w1 ≡ map pairWord m
     → Each (λ a b. (a < 1024) × (b < 1024)) m

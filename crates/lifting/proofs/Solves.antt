@@ -2,7 +2,8 @@
 -- (`tail-room`), and the file that they make (`tail-written`); what the start refuses (`solve-refused`); what a slip
 -- leaves may be solved (`solve-left`), and that is what solve is to write (`solve-passed`). Assumes nothing.
 use mathlib.Core.Path.{_≡_, refl, sym, ap, subst, _∙_}
-use mathlib.Core.List.{List, [], _∷_, map}
+use mathlib.Core.Bool.{Bool}
+use mathlib.Core.List.{List, [], _∷_, _++_, map}
 use mathlib.Core.Option.{Option, some, none}
 use Prim.Native.Nat.{ℕ, _≤_, _<_}
 use native.Mathlib.Omega.{arith}
@@ -16,9 +17,10 @@ use Rattle.cellfile.specs.Files.{pairing as pairingLayout, writeFile, cellsOf, 
 use Rattle.checks.specs.Refusals.{first}
 use Rattle.cellfile.specs.Answers.{Answer, answer}
 use Rattle.slots.specs.Slots.{graphOf}
-use Rattle.starting.specs.Steps.{stepsOn}
+use Rattle.starting.specs.Steps.{stepsOn, slipRows}
+use Rattle.checks.specs.Calls.{callRows}
 use Rattle.checks.specs.Answering.{Does}
-use Rattle.starting.specs.Starting.{slipStart, StartDone}
+use Rattle.starting.specs.Starting.{StartDone}
 use Rattle.checks.proofs.Answering.{refused, passed}
 use Rattle.starting.proofs.OnList.{left-there}
 use Rattle.lifting.specs.Calls.{pairFile, graphAfter, solvedFile, solveFile, bySteps}
@@ -70,11 +72,11 @@ module _ {n e : ℕ} {w1 w2 : List ℕ} (h : LeftThere n e w1 w2) where
 abbrev leftCells : List ℕ → List ℕ → ℕ
 leftCells list slip = bySteps list slip 0 (λ ss. cellsLeft (cellsOf list) (graphAfter list ss))
 
-pub solve-refused : (list slip lent out : List ℕ) {k : ℕ}
-    → (k, []) ≡ answer (first (slipStart list slip lent)) (0 ∷ [])
-    → Does (solveRows list slip lent) ((solveFile list slip, out, out) ∷ []) (k, [])
-solve-refused list slip lent out e =
-    refused (slipStart list slip lent) (crowdedRow (leftCells list slip) ∷ []) 0 [] e (refl, tt)
+pub solve-refused : (few : Bool) (list slip out : List ℕ) {k : ℕ}
+    → (k, []) ≡ answer (first (callRows few list ++ slipRows list slip)) (0 ∷ [])
+    → Does (callRows few list ++ solveRows list slip) ((solveFile list slip, out, out) ∷ []) (k, [])
+solve-refused few list slip out e =
+    refused (callRows few list ++ slipRows list slip) (crowdedRow (leftCells list slip) ∷ []) 0 [] e (refl, tt)
 
 module _ (list slip : List ℕ) {n slots trail points steps : ℕ} {w1′ w2′ : List ℕ}
     (d : StartDone list (stepsOn list (stepsOf slip)) n slots trail points steps w1′ w2′) where
@@ -93,13 +95,13 @@ module _ (list slip : List ℕ) {n slots trail points steps : ℕ} {w1′ w2′ 
   graph-left f =
       ap (λ (i : ℕ). f i (graphOf slots w1′)) (d .cells) ∙ ap (f (cellsOf list)) (d .after .graph)
 
-  pub solve-passed : (lent : List ℕ) → first (slipStart list slip lent) ≡ 0 → (out : List ℕ) {out′ : List ℕ}
-      {a : Answer}
+  pub solve-passed : (few : Bool) → first (callRows few list ++ slipRows list slip) ≡ 0 → (out : List ℕ)
+      {out′ : List ℕ} {a : Answer}
       → Does (crowdedRow (cellsLeft n (graphOf slots w1′)) ∷ [])
       ((pairFile n (solution n (graphOf slots w1′)), out, out′) ∷ []) a
-      → Does (solveRows list slip lent) ((solveFile list slip, out, out′) ∷ []) a
-  solve-passed lent z out {out′} {a} p =
-      passed (slipStart list slip lent) (crowdedRow (leftCells list slip) ∷ []) (omega arith) z
+      → Does (callRows few list ++ solveRows list slip) ((solveFile list slip, out, out′) ∷ []) a
+  solve-passed few z out {out′} {a} p =
+      passed (callRows few list ++ slipRows list slip) (crowdedRow (leftCells list slip) ∷ []) (omega arith) z
       (subst (λ k. Does (crowdedRow k ∷ []) ((solveFile list slip, out, out′) ∷ []) a) count
       (subst (λ file. Does (crowdedRow (cellsLeft n (graphOf slots w1′)) ∷ []) ((file, out, out′) ∷ []) a) same p))
     where

@@ -2,6 +2,7 @@
 -- brought back (`tail-returns`); the answers (`tail-crowded`, `tail-passed`); reduce leaves what this asks
 -- (`reduce-tail`), and so it is what pair is to answer (`pair-passed`). Assumes nothing.
 use mathlib.Core.Path.{_≡_, refl, subst, _∙_}
+use mathlib.Core.Bool.{Bool}
 use mathlib.Core.List.{List, [], _∷_, _++_}
 use mathlib.Core.Option.{some}
 use Prim.Native.Nat.{ℕ, _<_}
@@ -19,7 +20,8 @@ use Rattle.checks.specs.Refusals.{first}
 use Rattle.cellfile.specs.Answers.{Answer}
 use Rattle.slots.specs.Slots.{graphOf}
 use Rattle.starting.specs.Steps.{graphIn, reduceSteps}
-use Rattle.starting.specs.Starting.{listStart, StartDone}
+use Rattle.starting.specs.Starting.{StartDone}
+use Rattle.checks.specs.Calls.{callRows}
 use Rattle.checks.specs.Answering.{Does}
 use Rattle.checks.proofs.Answering.{refused, passed}
 use Rattle.reduction.proofs.Reducing.{reduce-allowed, reduce-after}
@@ -109,12 +111,12 @@ module _ (list : List ℕ) {n slots on-trail points steps : ℕ} {w1 w2 : List �
   pub reduce-tail : TailThere n slots on-trail w1 w2
   reduce-tail = reduced
 
-  pub pair-passed : (lent : List ℕ) → first (listStart list lent) ≡ 0 → (out : List ℕ) {out′ : List ℕ} {a : Answer}
+  pub pair-passed : (few : Bool) → first (callRows few list) ≡ 0 → (out : List ℕ) {out′ : List ℕ} {a : Answer}
       → Tails n slots on-trail w1 w2 out out′ a
-      → Does (listStart list lent ++ crowdedRow (cellsLeft (cellsOf list) (graphAfter list (reduceSteps list))) ∷ [])
+      → Does (callRows few list ++ crowdedRow (cellsLeft (cellsOf list) (graphAfter list (reduceSteps list))) ∷ [])
       ((pairingFile list, out, out′) ∷ []) a
-  pair-passed lent z out {out′} {a} p =
-      passed (listStart list lent) (crowdedRow (cellsLeft (cellsOf list) (graphAfter list ss)) ∷ []) (omega arith) z
+  pair-passed few z out {out′} {a} p =
+      passed (callRows few list) (crowdedRow (cellsLeft (cellsOf list) (graphAfter list ss)) ∷ []) (omega arith) z
       (subst Of (d .cells) (p reduced))
     where
       Of : ℕ → Type 0

@@ -7,6 +7,7 @@ use Rattle.matching.specs.Pairing.{isPairing}
 use Rattle.matching.specs.Listed.{joined, listed}
 use Rattle.cellfile.specs.Bytes.{number}
 use Rattle.cellfile.specs.Fields.{fields, readRecords}
+use Rattle.cellfile.specs.Files.{listLayout, entriesAll, inView}
 use Rattle.checks.specs.Refusals.{fewWords, notAList, tooLarge, wrongLength, strayEntry, unordered, misheaded, badSlip}
 use Rattle.checks.specs.Refusals.{badPairing}
 use Rattle.lifting.specs.Calls.{lifting}
@@ -17,6 +18,7 @@ abbrev empty-slip : List ℕ
 empty-slip = 0x30 ∷ 0x04 ∷ 0x00 ∷ 0x00 ∷ []
 
 pub no-points-refused : lifting list empty-slip pairing (8192 ∷ 8192 ∷ []) 7 ≡ (10, [])
-unfolding number fields readRecords fewWords notAList tooLarge wrongLength strayEntry unordered misheaded badSlip
+unfolding number fields readRecords listLayout entriesAll inView fewWords notAList tooLarge wrongLength strayEntry
+    unordered misheaded badSlip
     badPairing isPairing joined listed
 no-points-refused = refl

@@ -2,25 +2,17 @@
 use mathlib.Core.List.{List, [], _∷_, _++_, map}
 use mathlib.Core.Option.{some, none}
 use Prim.Native.Nat.{ℕ}
-use lib.ListN.{length}
 use Rattle.matching.specs.Pairs.{Pair, Points}
 use Rattle.matching.specs.Listed.{filed}
 use Rattle.matching.specs.Graph.{cellsLeft}
 use Rattle.matching.specs.Steps.{Step}
 use Rattle.matching.specs.Slip.{left, lift}
-use Rattle.cellfile.specs.Files.{storeList, pairing as pairingLayout, cellsOf, stepsOf, pairsOf, pairFields, writeFile}
-use Rattle.checks.specs.Refusals.{Row, first, fewWords, listRows, badSlip, disallowed, badPairing, noPairing, crowded}
-use Rattle.checks.specs.Refusals.{shortOutput}
-use Rattle.cellfile.specs.Answers.{Answer, answer}
-use Rattle.starting.specs.Steps.{graphIn, stepsOn, stand, reduceSteps}
-use Rattle.lifting.specs.declared.Paired.{Paired}
-use Rattle.lifting.specs.declared.Paired.the-variants.{Refused, Length}
+use Rattle.cellfile.specs.Files.{pairing as pairingLayout, cellsOf, stepsOf, pairsOf, pairFields, writeFile}
+use Rattle.checks.specs.Refusals.{badPairing, noPairing, crowded}
+use Rattle.checks.specs.Calls.{answering}
+use Rattle.cellfile.specs.Answers.{Answer}
+use Rattle.starting.specs.Steps.{graphIn, stepsOn, slipRows, reduceSteps}
 use Rattle.matching.specs.Solve.{solution}
-
--- The number and the values of each case of the answer enum: the length of the pairing's file.
-abbrev pub paired : Paired → Answer
-paired (Refused k) = (k, [])
-paired (Length m) = (0, m ∷ [])
 
 -- A pairing as a file.
 abbrev pub pairFile : ℕ → List Pair → List ℕ
@@ -45,22 +37,13 @@ module _ (list : List ℕ) where
   abbrev pub bySteps : {A : Type 0} → List ℕ → A → (List Step → A) → A
   bySteps slip x f = elim (stepsOn list (stepsOf slip)) [ none ↦ x | some ss ↦ f ss ]
 
-  abbrev pub slipRows : List ℕ → List Row
-  slipRows slip = (7, badSlip cells slip) ∷ (8, disallowed (stand list) slip) ∷ []
-
-  -- The rows of a call between 1 and 12, and its answer.
-  abbrev pub answering : List Row → List ℕ → ℕ → List ℕ → Answer
-  answering rows lent room file =
-      answer (first ((1, fewWords lent)
-      ∷ (listRows storeList list ++ (rows ++ (12, shortOutput ((room, length file) ∷ [])) ∷ []))))
-      (length file ∷ [])
-
   -- Solve.
   abbrev pub solveFile : List ℕ → List ℕ
   solveFile slip = bySteps slip [] solvedFile
 
   abbrev pub solving : List ℕ → List ℕ → ℕ → Answer
-  solving slip lent room = answering (slipRows slip ++ (11, crowded left-cells) ∷ []) lent room (solveFile slip)
+  solving slip lent room =
+      answering lent list (slipRows list slip ++ (11, crowded left-cells) ∷ []) ((room, solveFile slip) ∷ [])
     where
       left-cells : ℕ
       left-cells = bySteps slip 0 (λ ss. cellsLeft cells (graphAfter ss))
@@ -71,8 +54,9 @@ module _ (list : List ℕ) where
 
   abbrev pub lifting : List ℕ → List ℕ → List ℕ → ℕ → Answer
   lifting slip pairing lent room =
-      answering (slipRows slip ++ (9, badPairing cells pairing) ∷ (10, noPairing there (pairsOf pairing)) ∷ [])
-      lent room (liftFile slip pairing)
+      answering lent list
+      (slipRows list slip ++ (9, badPairing cells pairing) ∷ (10, noPairing there (pairsOf pairing)) ∷ [])
+      ((room, liftFile slip pairing) ∷ [])
     where
       there : Points
       there = bySteps slip (graphIn list) graphAfter
@@ -86,4 +70,5 @@ module _ (list : List ℕ) where
 
   abbrev pub pairing : List ℕ → ℕ → Answer
   pairing lent room =
-      answering ((11, crowded (cellsLeft cells (graphAfter (reduceSteps list)))) ∷ []) lent room pairingFile
+      answering lent list ((11, crowded (cellsLeft cells (graphAfter (reduceSteps list)))) ∷ [])
+      ((room, pairingFile) ∷ [])

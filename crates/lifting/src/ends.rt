@@ -1,33 +1,34 @@
 // Inner: the end of a call, which writes its pairing. See specs/Ending.
-use crate::Paired;
 use cellfile::write;
+use checks::Lengths;
 use partners;
 use undoing;
 ghost use mathlib.Core.List.{_∷_, []};
 ghost use Prim.Native.Nat.{_≤_};
 ghost use lib.ListN.{length};
+ghost use Rattle.checks.specs.Calls.{answered};
 ghost use Rattle.checks.specs.Answering.{Does};
-ghost use Rattle.lifting.specs.Calls.{paired};
 ghost use Rattle.lifting.specs.Ending.{wordsFile, ReturnThere, Returns};
 
 // Refusal 12 and the pairing of n cells whose pairs are the first r words.
-pub fn write_pairs(n: usize, w1: &[u64], r: usize, out: &mut [u8]) -> Paired
+pub fn write_pairs(n: usize, w1: &[u64], r: usize, out: &mut [u8]) -> Lengths
     requires { ⌜ (n ≤ 1024) × (r ≤ 512) × (512 ≤ length (now w1)) ⌝ }
     ensures { λ a. ⌜ Does []
-        ((wordsFile n r (now (w1 .entry)), now (out .entry), now (out .exit)) ∷ []) (paired a) ⌝ }
+        ((wordsFile n r (now (w1 .entry)), now (out .entry), now (out .exit)) ∷ []) (answered a) ⌝ }
 {
     let size = 4 + 3 * r;
     if out.len() < size {
-        return Paired::Refused(12);
+        return Lengths::Refused(12);
     }
     write::write_pairing(n, w1, r, out);
-    Paired::Length(size)
+    Lengths::One(size)
 }
 
 // Brings the pairing in the table back over the trail of t words, and writes it; refusal 12.
-pub fn bring_back(n: usize, t: usize, w1: &mut [u64], w2: &mut [u64], out: &mut [u8]) -> Paired
+pub fn bring_back(n: usize, t: usize, w1: &mut [u64], w2: &mut [u64], out: &mut [u8]) -> Lengths
     requires { ⌜ ReturnThere n t (now w1) (now w2) ⌝ }
-    ensures { λ a. ⌜ Returns n t (now (w1 .entry)) (now (w2 .entry)) (now (out .entry)) (now (out .exit)) (paired a) ⌝ }
+    ensures { λ a. ⌜ Returns n t (now (w1 .entry)) (now (w2 .entry)) (now (out .entry)) (now (out .exit)) (answered a)
+        ⌝ }
 {
     undoing::lift_back(w1, w2, t);
     let r = partners::list_pairs(w1, w2, n);

@@ -4,18 +4,15 @@ mod ends;
 mod pairing;
 
 use buffers;
+use checks;
+use checks::Lengths;
 ghost use mathlib.Core.Path.{_≡_};
 ghost use lib.ListN.{length};
 ghost use Rattle.buffers.specs.Buffers.{lent, Cleared};
 ghost use Rattle.cellfile.specs.Answers.{written};
-ghost use Rattle.lifting.specs.Calls.{paired, solving, solveFile, lifting, liftFile, pairing as pairingAnswer};
+ghost use Rattle.checks.specs.Calls.{answered};
+ghost use Rattle.lifting.specs.Calls.{solving, solveFile, lifting, liftFile, pairing as pairingAnswer};
 ghost use Rattle.lifting.specs.Calls.{pairingFile};
-
-// The answer of solve, lift and pair: a refusal's number, or the length of the pairing.
-pub enum Paired {
-    Refused(u32),
-    Length(usize),
-}
 
 // Solves what the slip leaves of the list and writes the pairing. Every word of the work buffers is zero afterwards.
 pub fn solve(
@@ -24,17 +21,17 @@ pub fn solve(
     work_a: &mut [u64],
     work_b: &mut [u64],
     pairing: &mut [u8],
-) -> Paired
-    ensures answer { λ r. ⌜ paired r ≡ solving (now (list .entry)) (now (slip .entry))
+) -> Lengths
+    ensures answer { λ r. ⌜ answered r ≡ solving (now (list .entry)) (now (slip .entry))
         (lent (now («work_a» .entry)) (now («work_b» .entry))) (length (now (pairing .entry))) ⌝ }
-    ensures output { λ r. ⌜ now (pairing .exit) ≡ written (paired r .0)
+    ensures output { λ r. ⌜ now (pairing .exit) ≡ written (answered r .0)
         (solveFile (now (list .entry)) (now (slip .entry))) (now (pairing .entry)) ⌝ }
     ensures cleared { λ _. ⌜ Cleared (now («work_a» .entry)) (now («work_a» .exit))
         × Cleared (now («work_b» .entry)) (now («work_b» .exit)) ⌝ }
 {
-    let r = calls::solve_in(list, slip, work_a, work_b, pairing);
-    buffers::clear(work_a);
-    buffers::clear(work_b);
+    let few = checks::few_words(work_a, work_b);
+    let r = calls::solve_in(few, list, slip, work_a, work_b, pairing);
+    buffers::clear_both(work_a, work_b);
     r
 }
 
@@ -46,32 +43,32 @@ pub fn lift(
     work_a: &mut [u64],
     work_b: &mut [u64],
     lifted: &mut [u8],
-) -> Paired
-    ensures answer { λ r. ⌜ paired r ≡ lifting (now (list .entry)) (now (slip .entry)) (now (pairing .entry))
+) -> Lengths
+    ensures answer { λ r. ⌜ answered r ≡ lifting (now (list .entry)) (now (slip .entry)) (now (pairing .entry))
         (lent (now («work_a» .entry)) (now («work_b» .entry))) (length (now (lifted .entry))) ⌝ }
-    ensures output { λ r. ⌜ now (lifted .exit) ≡ written (paired r .0)
+    ensures output { λ r. ⌜ now (lifted .exit) ≡ written (answered r .0)
         (liftFile (now (list .entry)) (now (slip .entry)) (now (pairing .entry))) (now (lifted .entry)) ⌝ }
     ensures cleared { λ _. ⌜ Cleared (now («work_a» .entry)) (now («work_a» .exit))
         × Cleared (now («work_b» .entry)) (now («work_b» .exit)) ⌝ }
 {
-    let r = calls::lift_in(list, slip, pairing, work_a, work_b, lifted);
-    buffers::clear(work_a);
-    buffers::clear(work_b);
+    let few = checks::few_words(work_a, work_b);
+    let r = calls::lift_in(few, list, slip, pairing, work_a, work_b, lifted);
+    buffers::clear_both(work_a, work_b);
     r
 }
 
 // Reduces the list, solves what is left and lifts it: a heaviest pairing of the list. Every word of the work buffers is
 // zero afterwards.
-pub fn pair(list: &[u8], work_a: &mut [u64], work_b: &mut [u64], pairing: &mut [u8]) -> Paired
-    ensures answer { λ r. ⌜ paired r ≡ pairingAnswer (now (list .entry))
+pub fn pair(list: &[u8], work_a: &mut [u64], work_b: &mut [u64], pairing: &mut [u8]) -> Lengths
+    ensures answer { λ r. ⌜ answered r ≡ pairingAnswer (now (list .entry))
         (lent (now («work_a» .entry)) (now («work_b» .entry))) (length (now (pairing .entry))) ⌝ }
-    ensures output { λ r. ⌜ now (pairing .exit) ≡ written (paired r .0) (pairingFile (now (list .entry)))
+    ensures output { λ r. ⌜ now (pairing .exit) ≡ written (answered r .0) (pairingFile (now (list .entry)))
         (now (pairing .entry)) ⌝ }
     ensures cleared { λ _. ⌜ Cleared (now («work_a» .entry)) (now («work_a» .exit))
         × Cleared (now («work_b» .entry)) (now («work_b» .exit)) ⌝ }
 {
-    let r = pairing::pair_in(list, work_a, work_b, pairing);
-    buffers::clear(work_a);
-    buffers::clear(work_b);
+    let few = checks::few_words(work_a, work_b);
+    let r = pairing::pair_in(few, list, work_a, work_b, pairing);
+    buffers::clear_both(work_a, work_b);
     r
 }

@@ -1,6 +1,6 @@
 // Inner functions of pair: see specs/Tail.
-use crate::Paired;
 use crate::ends;
+use checks::Lengths;
 use partners;
 use solving;
 use solving::Solved;
@@ -9,20 +9,27 @@ use starting::Started;
 ghost use mathlib.Core.List.{_∷_, [], _++_};
 ghost use Rattle.matching.specs.Graph.{cellsLeft};
 ghost use Rattle.cellfile.specs.Files.{cellsOf};
-ghost use Rattle.buffers.specs.Buffers.{lent};
 ghost use Rattle.starting.specs.Steps.{reduceSteps};
-ghost use Rattle.starting.specs.Starting.{listStart};
-ghost use Rattle.checks.specs.Answering.{Does};
-ghost use Rattle.lifting.specs.Calls.{paired, graphAfter, pairingFile};
+ghost use Rattle.checks.specs.Calls.{answered, callRows};
+ghost use Rattle.checks.specs.Answering.{Does, Enough};
+ghost use Rattle.lifting.specs.Calls.{graphAfter, pairingFile};
 ghost use Rattle.lifting.specs.Tail.{TailThere, Tails, crowdedRow};
 
 // Refusal 11; else the solution of what is left in e slots is brought back through the trail of t words and written.
-fn pair_tail(n: usize, e: usize, t: usize, w1: &mut [u64], w2: &mut [u64], out: &mut [u8]) -> Paired
+fn pair_tail(
+    n: usize,
+    e: usize,
+    t: usize,
+    w1: &mut [u64],
+    w2: &mut [u64],
+    out: &mut [u8],
+) -> Lengths
     requires { ⌜ TailThere n e t (now w1) (now w2) ⌝ }
-    ensures { λ r. ⌜ Tails n e t (now (w1 .entry)) (now (w2 .entry)) (now (out .entry)) (now (out .exit)) (paired r) ⌝ }
+    ensures { λ r. ⌜ Tails n e t (now (w1 .entry)) (now (w2 .entry)) (now (out .entry)) (now (out .exit)) (answered r)
+        ⌝ }
 {
     match solving::solve_left(w1, w2, e, n) {
-        Solved::Crowded => Paired::Refused(11),
+        Solved::Crowded => Lengths::Refused(11),
         Solved::Pairs(r) => {
             partners::enter_words(w1, r, w2);
             ends::bring_back(n, t, w1, w2, out)
@@ -31,20 +38,21 @@ fn pair_tail(n: usize, e: usize, t: usize, w1: &mut [u64], w2: &mut [u64], out: 
 }
 
 // Pair, which leaves anything in the work buffers.
-pub fn pair_in(list: &[u8], work_a: &mut [u64], work_b: &mut [u64], out: &mut [u8]) -> Paired
-    ensures { λ r. ⌜ Does (listStart (now (list .entry)) (lent (now («work_a» .entry)) (now («work_b» .entry)))
+pub fn pair_in(few: bool, list: &[u8], w1: &mut [u64], w2: &mut [u64], out: &mut [u8]) -> Lengths
+    requires { ⌜ Enough few (now w1) (now w2) ⌝ }
+    ensures { λ r. ⌜ Does (callRows few (now (list .entry))
         ++ crowdedRow (cellsLeft (cellsOf (now (list .entry)))
         (graphAfter (now (list .entry)) (reduceSteps (now (list .entry))))) ∷ [])
-        ((pairingFile (now (list .entry)), now (out .entry), now (out .exit)) ∷ []) (paired r) ⌝ }
+        ((pairingFile (now (list .entry)), now (out .entry), now (out .exit)) ∷ []) (answered r) ⌝ }
 {
-    match starting::start_reduce(list, work_a, work_b) {
-        Started::Refused(k) => Paired::Refused(k),
+    match starting::start_reduce(few, list, w1, w2) {
+        Started::Refused(k) => Lengths::Refused(k),
         Started::Done {
             n,
             slots,
             trail,
             carried: _,
             steps: _,
-        } => pair_tail(n, slots, trail, work_a, work_b, out),
+        } => pair_tail(n, slots, trail, w1, w2, out),
     }
 }

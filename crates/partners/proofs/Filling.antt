@@ -4,13 +4,14 @@
 use mathlib.Core.Path.{_≡_, refl, sym, ap, subst, _∙_}
 use mathlib.Core.Logic.{inl, inr, _≢_}
 use mathlib.Core.Bool.{Bool, true, false, true≢false}
-use mathlib.Core.List.{List, [], _∷_, map}
-use Prim.Native.Nat.{ℕ, _+_, _*_, _≤_, _<_}
+use mathlib.Core.List.{List, [], _∷_}
+use Prim.Native.Nat.{ℕ, _+_, _≤_, _<_}
 use native.Mathlib.Omega.{arith}
 use lib.Dec.{ltb}
-use lib.ListN.{length, set, drop, length-set}
+use lib.ListN.{length, set, drop, length-set, drop-of-length-le}
 use lib.Seq.{getD-set-same, getD-set-other}
 use borrow.Author.Tests.{lt-ltb, ne-eqb}
+use Rattle.buffers.specs.Map.{atTable}
 use Rattle.matching.specs.Lists.{All, distinct}
 use Rattle.matching.specs.Pairs.{Pair, ι, sum, hit}
 use Rattle.matching.specs.Pairing.{mate, partner, cells}
@@ -19,11 +20,10 @@ use Rattle.matching.proofs.Lists.{count, Twice, distinctT}
 use Rattle.matching.proofs.Pairing.{hit-cells}
 use Rattle.matching.proofs.Sums.{ι-is, hit-none, hit-left, hit-right, hit-some}
 use Rattle.matching.proofs.Partner.{mate-left, mate-turned}
-use Rattle.cellfile.specs.Files.{pairing, asPair}
+use Rattle.cellfile.specs.Files.{pairsOf, countOf}
 use Rattle.cellfile.specs.Reads.{PairRead}
-use Rattle.cellfile.specs.Words.{pairs}
 use Rattle.cellfile.specs.declared.decode.PairEntry.{PairEntry}
-use Rattle.cellfile.proofs.Walk.{from, from-start, from-end, from-next, cells-fit}
+use Rattle.cellfile.proofs.Walk.{pairs-count, pair-next, cells-fit}
 use Rattle.partners.specs.Table.{TrailKept}
 use Rattle.partners.specs.Entering.{Empty, Filled}
 use Rattle.partners.proofs.Tabled.{mateAt}
@@ -31,15 +31,15 @@ use Rattle.partners.proofs.Tabled.{mateAt}
 trail-on : (w v u : List ℕ) → TrailKept w v → TrailKept v u → TrailKept w u
 trail-on w v u p q j l = q j l ∙ p j l
 
-trail-set : (w : List ℕ) (c x : ℕ) → TrailKept w (set w (4096 + c) x)
-trail-set w c x j l = getD-set-other w (4096 + c) j x 0 (omega arith)
+trail-set : (w : List ℕ) (c x : ℕ) → TrailKept w (set w (atTable + c) x)
+trail-set w c x j l = getD-set-other w (atTable + c) j x 0 (omega arith)
 
 -- The table with the word x at the cell c.
-table-same : (w : List ℕ) (c x : ℕ) → 8192 ≤ length w → c < 1024 → mateAt (set w (4096 + c) x) c ≡ x
-table-same w c x room l = getD-set-same w (4096 + c) x 0 (omega arith)
+table-same : (w : List ℕ) (c x : ℕ) → 8192 ≤ length w → c < 1024 → mateAt (set w (atTable + c) x) c ≡ x
+table-same w c x room l = getD-set-same w (atTable + c) x 0 (omega arith)
 
-pub table-other : (w : List ℕ) (c x d : ℕ) → d ≢ c → mateAt (set w (4096 + c) x) d ≡ mateAt w d
-table-other w c x d n = getD-set-other w (4096 + c) (4096 + d) x 0 (λ e. n (omega arith))
+pub table-other : (w : List ℕ) (c x d : ℕ) → d ≢ c → mateAt (set w (atTable + c) x) d ≡ mateAt w d
+table-other w c x d n = getD-set-other w (atTable + c) (atTable + d) x 0 (λ e. n (omega arith))
 
 -- ---- the table emptied
 
@@ -53,14 +53,14 @@ pub empty-start : (w : List ℕ) → Emptying w w 0
 empty-start w = record { at = omega arith; zeros = λ d l. absurd (omega arith); aside = λ j l. refl }
 
 pub empty-next : {w v : List ℕ} {c : ℕ} → Emptying w v c → 8192 ≤ length v → c < 1024
-    → Emptying w (set v (4096 + c) 0) (c + 1)
+    → Emptying w (set v (atTable + c) 0) (c + 1)
 empty-next {w} {v} {c} p room l = record {
   at = omega arith;
   zeros = λ d k. go d k (eqT d c);
-  aside = trail-on w v (set v (4096 + c) 0) (p .aside) (trail-set v c 0);
+  aside = trail-on w v (set v (atTable + c) 0) (p .aside) (trail-set v c 0);
 }
   where
-    go : (d : ℕ) → d < c + 1 → {t : Bool} → Test (d ≡ c) (d ≢ c) t → mateAt (set v (4096 + c) 0) d ≡ 0
+    go : (d : ℕ) → d < c + 1 → {t : Bool} → Test (d ≡ c) (d ≢ c) t → mateAt (set v (atTable + c) 0) d ≡ 0
     go d k (pass e) = rw e (table-same v c 0 room l)
     go d k (fail n) = table-other v c 0 d n ∙ p .zeros d (omega arith)
 
@@ -117,12 +117,12 @@ module _ {all rest : List Pair} {w v : List ℕ} {a b : ℕ} (p : Filling all ((
       record { answer = rw d; mates = λ e. absurd (true≢false e); aside = p .aside }
 
   abbrev half : List ℕ
-  half = set v (4096 + a) (b + 1)
+  half = set v (atTable + a) (b + 1)
 
   half-aside : TrailKept w half
   half-aside = trail-on w v half (p .aside) (trail-set v a (b + 1))
 
-  pub fill-twice-b : mateAt (set v (4096 + a) (b + 1)) b ≢ 0 → Filled all w (set v (4096 + a) (b + 1)) true
+  pub fill-twice-b : mateAt (set v (atTable + a) (b + 1)) b ≢ 0 → Filled all w (set v (atTable + a) (b + 1)) true
   fill-twice-b n =
       let d = twice-cell all b (go (eqT b a)) in
       record { answer = rw d; mates = λ e. absurd (true≢false e); aside = half-aside }
@@ -137,12 +137,12 @@ module _ {all rest : List Pair} {w v : List ℕ} {a b : ℕ} (p : Filling all ((
             hit-some b a b (inr refl),
           )
 
-  module _ (za : mateAt v a ≡ 0) (zb : mateAt (set v (4096 + a) (b + 1)) b ≡ 0) where
+  module _ (za : mateAt v a ≡ 0) (zb : mateAt (set v (atTable + a) (b + 1)) b ≡ 0) where
     apart : b ≢ a
     apart e = omega (arith, table-same v a (b + 1) room la, ap (mateAt half) e, zb)
 
     abbrev full : List ℕ
-    full = set half (4096 + b) (a + 1)
+    full = set half (atTable + b) (a + 1)
 
     at-a : mateAt full a ≡ b + 1
     at-a = table-other half b (a + 1) a (λ e. apart (sym e)) ∙ table-same v a (b + 1) room la
@@ -170,7 +170,7 @@ module _ {all rest : List Pair} {w v : List ℕ} {a b : ℕ} (p : Filling all ((
         rw (e, was-b, at-b, lt-ltb 0 (a + 1) (omega arith)) (omega (arith, hit-right a b (λ q. apart (sym q))))
     hits-go c l (fail n) (fail m) = rw (at-c c n m) (omega (arith, hit-none c a b (λ q. n (sym q)) (λ q. m (sym q))))
 
-    pub fill-next : Filling all rest w (set (set v (4096 + a) (b + 1)) (4096 + b) (a + 1))
+    pub fill-next : Filling all rest w (set (set v (atTable + a) (b + 1)) (atTable + b) (a + 1))
     fill-next = record {
       mates = λ c l. omega (arith, p .mates c l, mates-go c l (eqT c a) (eqT c b));
       hits = λ c l. omega (arith, p .hits c l, hits-go c l (eqT c a) (eqT c b));
@@ -199,26 +199,17 @@ fill-end {all} {w} {v} p low = record {
 
 -- ---- the pairs of a file
 
--- The pairs of a file of k pairs from place i on.
-abbrev pub toEnter : List ℕ → ℕ → ℕ → List Pair
-toEnter s k i = map asPair (from (pairing .entry) s 4 k i)
-
-module _ (s : List ℕ) (k : ℕ) (w : List ℕ) where
+module _ (s w : List ℕ) where
   abbrev Before : List Pair → List ℕ → Type 0
-  Before rest v = Filling (pairs k (drop 4 s)) rest w v
+  Before rest v = Filling (pairsOf s) rest w v
 
-  pub fill-first : Empty w → Filling (pairs k (drop 4 s)) (toEnter s k 0) w w
-  fill-first h =
-      subst (λ rest. Before rest w) (ap (map asPair) (from-start (pairing .entry) s 4 k))
-      (fill-start (pairs k (drop 4 s)) w h)
+  module _ (i : ℕ) {v : List ℕ} (p : Filling (pairsOf s) (drop i (pairsOf s)) w v) where
+    pub fill-here : i < countOf s → {e : PairEntry} → PairRead s i e
+        → Filling (pairsOf s) ((e .a, e .b) ∷ drop (i + 1) (pairsOf s)) w v
+    fill-here l {e} r = subst (λ rest. Before rest v) (pair-next s i e l r) p
 
-  module _ (i : ℕ) {v : List ℕ} (p : Filling (pairs k (drop 4 s)) (toEnter s k i) w v) where
-    pub fill-here : i < k → {e : PairEntry} → PairRead (drop (4 + 3 * i) s) e
-        → Filling (pairs k (drop 4 s)) ((e .a, e .b) ∷ toEnter s k (i + 1)) w v
-    fill-here l {e} r =
-        subst (λ rest. Before rest v) (rw (from-next (pairing .entry) s 4 k i l, r .a, r .b)) p
-
-    pub fill-last : k ≤ i → Filled (pairs k (drop 4 s)) w v false
+    pub fill-last : countOf s ≤ i → Filled (pairsOf s) w v false
     fill-last l =
-        fill-end (subst (λ rest. Before rest v) (rw (from-end (pairing .entry) s 4 k i l)) p)
-        (cells-fit 1024 k (drop 4 s) (omega arith))
+        fill-end (subst (λ rest. Before rest v)
+        (drop-of-length-le (pairsOf s) {i = i} (omega (arith, pairs-count s))) p)
+        (cells-fit 1024 s (omega arith))

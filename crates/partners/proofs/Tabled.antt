@@ -13,6 +13,7 @@ use lib.Dec.{ltb}
 use lib.ListN.{length, getD, set, take, length-append}
 use lib.Seq.{take-suc-set}
 use borrow.Author.Tests.{lt-ltb, le-ltb}
+use Rattle.buffers.specs.Map.{atTable}
 use Rattle.matching.specs.Lists.{All}
 use Rattle.matching.specs.Pairs.{Pair, Points, sum, Each, hit, like, without}
 use Rattle.matching.specs.Pairing.{Once, partner, cells}
@@ -270,7 +271,7 @@ module _ (n : ℕ) (m : List Pair) (p : Within n m) (o : Once m) where
 
 -- The word of the table for the cell c.
 abbrev pub mateAt : List ℕ → ℕ → ℕ
-mateAt w2 c = getD w2 (4096 + c) 0
+mateAt w2 c = getD w2 (atTable + c) 0
 
 -- The pairs of the cells below c stand as r words at the start of the first buffer.
 pub record Reading (n : ℕ) (w2 w1 : List ℕ) (c r : ℕ) : Type 0 where

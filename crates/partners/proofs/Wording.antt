@@ -10,6 +10,7 @@ use native.Mathlib.Omega.{arith}
 use native.Mathlib.Numerals.{add-one}
 use lib.ListN.{length, getD, set, drop, length-map, drop-of-length-le, List·getD-map}
 use lib.Seq.{length-take-le, drop-cons, getD-take}
+use Rattle.buffers.specs.Map.{atTable}
 use Rattle.matching.specs.Pairs.{Pair, Each, hit}
 use Rattle.matching.proofs.Tests.{Test, pass, fail, eqT}
 use Rattle.matching.proofs.Sums.{hit-some}
@@ -97,7 +98,7 @@ module _ {m : List Pair} {r : ℕ} {w1 w : List ℕ} (h : WordsThere m r w1 w) w
     free-b = free b (bounds .1) (hit-some b a b (inr refl))
 
     pub words-next : Filling m (drop (i + 1) m) w
-        (set (set v (4096 + lowIn (getD w1 i 0)) (highIn (getD w1 i 0) + 1)) (4096 + highIn (getD w1 i 0))
+        (set (set v (atTable + lowIn (getD w1 i 0)) (highIn (getD w1 i 0) + 1)) (atTable + highIn (getD w1 i 0))
         (lowIn (getD w1 i 0) + 1))
     words-next =
         rw (low, high)

@@ -1,22 +1,21 @@
-// Inner, for lifting: a pairing into the table of partners and out of it. See specs/Table.
+// Inner, for weighing and lifting: a pairing into the table of partners and out of it. See specs/Table.
+use buffers::map::TABLE;
 use cellfile::decode;
+use slots::read;
 ghost use mathlib.Core.Path.{_≡_};
-ghost use mathlib.Core.List.{List, map};
-ghost use Prim.Native.Nat.{_+_, _*_, _≤_, _<_};
-ghost use lib.ListN.{length, take, drop};
-ghost use Rattle.matching.specs.Pairs.{Pair, Points};
-ghost use Rattle.cellfile.specs.Words.{pairs};
+ghost use mathlib.Core.Bool.{not};
+ghost use mathlib.Core.List.{List};
+ghost use Prim.Native.Nat.{ℕ, _≤_};
+ghost use lib.ListN.{length};
+ghost use Rattle.matching.specs.Pairs.{Pair};
+ghost use Rattle.cellfile.specs.Files.{pairing as pairingLayout, pairsOf};
+ghost use Rattle.checks.specs.Loops.{WholeFile};
+ghost use Rattle.slots.specs.Slots.{Holds, graphOf};
 ghost use Rattle.partners.specs.Table.{Mates, FileThere, TrailKept, Entered, TableThere, Listed, WordsThere};
-ghost use Rattle.partners.specs.Entering.{wordKey, absent, Empty, Filled};
-ghost use Rattle.cellfile.specs.Files.{pairKey};
+ghost use Rattle.partners.specs.Entering.{allThere, Empty, Filled};
 
-// Where the table stands in the second buffer, and its words.
-const TABLE: usize = 4096;
-
+// The words of the table.
 const CELLS: usize = 1024;
-
-// The cells in a word of a short list.
-const KEY_UNIT: u64 = 17592186044416;
 
 // The two cells in a word of a pairing.
 const CELL_A: u64 = 16384;
@@ -43,29 +42,20 @@ pub fn list_pairs(w1: &mut [u64], w2: &[u64], n: usize) -> usize
     r
 }
 
-// Whether a pair of the pairing is not among the first r words of a short list. Both ascend, so each is passed once.
-fn missing(pairing: &[u8], k: usize, w1: &[u64], r: usize) -> bool
-    requires { ⌜ (r ≤ 4096) × (r ≤ length (now w1)) × (k < 8192) × (4 + 3 * k ≤ length (now pairing)) ⌝ }
-    ensures { λ b. ⌜ b ≡ absent (map wordKey (take r (now (w1 .entry))))
-        (map pairKey (pairs k (drop 4 (now (pairing .entry))))) ⌝ }
+// Whether a pair of the pairing is not in the graph of e slots.
+fn missing(pairing: &[u8], k: usize, w1: &[u64], w2: &[u64], e: usize) -> bool
+    requires { ⌜ WholeFile pairingLayout (now pairing) k × Holds e (now w1) (now w2) ⌝ }
+    ensures { λ b. ⌜ b ≡ not (allThere (graphOf e (now (w1 .entry))) (pairsOf (now (pairing .entry)))) ⌝ }
 {
     let mut i = 0;
-    let mut j = 0;
-    while j < k {
-        if r <= i {
-            return true;
-        }
-        let have = w1[i] / KEY_UNIT;
-        let at = 4 + 3 * j;
-        let p = decode::pair_at(&pairing[at..]);
-        let want = (p.a * 1024 + p.b) as u64;
-        if want < have {
+    while i < k {
+        let p = decode::pairing_pair(pairing, i);
+        let a = p.a;
+        let b = p.b;
+        if read::find(w1, w2, e, a, b) == 0 {
             return true;
         }
         i += 1;
-        if have == want {
-            j += 1;
-        }
     }
     false
 }
@@ -84,13 +74,12 @@ fn clear_table(w2: &mut [u64])
 
 // Whether a cell stands twice. The partners of the cells met go into the table, which is empty before.
 fn fill(pairing: &[u8], k: usize, w2: &mut [u64]) -> bool
-    requires { ⌜ (k < 8192) × (4 + 3 * k ≤ length (now pairing)) × (8192 ≤ length (now w2)) × Empty (now w2) ⌝ }
-    ensures { λ b. ⌜ Filled (pairs k (drop 4 (now (pairing .entry)))) (now (w2 .entry)) (now (w2 .exit)) b ⌝ }
+    requires { ⌜ WholeFile pairingLayout (now pairing) k × (8192 ≤ length (now w2)) × Empty (now w2) ⌝ }
+    ensures { λ b. ⌜ Filled (pairsOf (now (pairing .entry))) (now (w2 .entry)) (now (w2 .exit)) b ⌝ }
 {
     let mut i = 0;
     while i < k {
-        let at = 4 + 3 * i;
-        let p = decode::pair_at(&pairing[at..]);
+        let p = decode::pairing_pair(pairing, i);
         let a = p.a;
         let b = p.b;
         if w2[TABLE + a] != 0 {
@@ -106,18 +95,25 @@ fn fill(pairing: &[u8], k: usize, w2: &mut [u64]) -> bool
     false
 }
 
-// Refusal 10 of a pairing that has passed 9, for the graph whose short list is the first r words; its partners go into
-// the table.
-pub fn enter(pairing: &[u8], k: usize, w1: &[u64], r: usize, w2: &mut [u64], n: usize) -> bool
-    requires { ⌜ ((w : Points) × FileThere n w (now pairing) k r (now w1) (now w2)) ⌝ }
-    ensures { λ b. ⌜ ((w : Points) → FileThere n w (now (pairing .entry)) k r (now (w1 .entry)) (now (w2 .entry))
-        → Entered w (now (pairing .entry)) (now (w2 .entry)) (now (w2 .exit)) b) ⌝ }
+// Whether a cell of the pairing stands twice; else the table has its partners.
+pub fn enter_pairs(pairing: &[u8], k: usize, w2: &mut [u64]) -> bool
+    requires { ⌜ WholeFile pairingLayout (now pairing) k × (8192 ≤ length (now w2)) ⌝ }
+    ensures { λ b. ⌜ Filled (pairsOf (now (pairing .entry))) (now (w2 .entry)) (now (w2 .exit)) b ⌝ }
 {
-    if missing(pairing, k, w1, r) {
-        return true;
-    }
     clear_table(w2);
     fill(pairing, k, w2)
+}
+
+// Refusal 10 of a pairing that has passed 9, for the graph in e slots; its partners go into the table.
+pub fn enter(pairing: &[u8], k: usize, w1: &[u64], w2: &mut [u64], e: usize) -> bool
+    requires { ⌜ ((n : ℕ) × FileThere n e (now pairing) k (now w1) (now w2)) ⌝ }
+    ensures { λ b. ⌜ Entered (graphOf e (now (w1 .entry))) (now (pairing .entry)) (now (w2 .entry)) (now (w2 .exit)) b
+        ⌝ }
+{
+    if missing(pairing, k, w1, w2, e) {
+        return true;
+    }
+    enter_pairs(pairing, k, w2)
 }
 
 // The pairs of the first r words go into the table, which is empty before.

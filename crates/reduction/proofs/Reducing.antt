@@ -1,6 +1,7 @@
 -- Reduce. In order: its steps are allowed; what they leave may be written (`reduce-left`); and that is what reduce is
 -- to write (`reduce-passed`). Assumes nothing.
 use mathlib.Core.Path.{_≡_, sym, ap, subst, _∙_}
+use mathlib.Core.Bool.{Bool}
 use mathlib.Core.List.{List, [], _∷_, map}
 use mathlib.Core.Option.{Option, some, none}
 use Prim.Native.Nat.{ℕ, _≤_}
@@ -9,8 +10,8 @@ use lib.ListN.{length}
 use Rattle.matching.specs.Steps.{Step, name}
 use Rattle.matching.specs.Slip.{replay}
 use Rattle.matching.proofs.Reduce.{reduce-replay}
-use Rattle.cellfile.specs.Files.{storeList, slip as slipLayout, cellsOf, writeFile, nameFields}
-use Rattle.checks.specs.Refusals.{first, listRows}
+use Rattle.cellfile.specs.Files.{slip as slipLayout, cellsOf, writeFile, nameFields}
+use Rattle.checks.specs.Refusals.{first, lists, listRows}
 use Rattle.cellfile.specs.Answers.{Answer}
 use Rattle.cellfile.specs.Words.{fileOf}
 use Rattle.slots.specs.Slots.{graphOf}
@@ -20,14 +21,15 @@ use Rattle.reduction.specs.Calls.{shortFile, slipFile}
 use Rattle.running.specs.Running.{After}
 use Rattle.running.specs.Pairs.{PairsLeft}
 use Rattle.reduction.specs.Writing.{leftFile, takenFile}
+use Rattle.checks.specs.Calls.{callRows}
 use Rattle.checks.specs.Answering.{Does}
-use Rattle.starting.specs.Starting.{listStart, StartDone}
+use Rattle.starting.specs.Starting.{StartDone}
 use Rattle.checks.proofs.Answering.{passed}
 use Rattle.starting.proofs.OnList.{list-graph, left-there, steps-few, steps-below}
 use Rattle.reduction.proofs.Ends.{slip-file}
 use Rattle.reduction.proofs.Replaying.{left-file}
 
-pub reduce-allowed : (list : List ℕ) → first (listRows storeList list) ≡ 0
+pub reduce-allowed : (list : List ℕ) → first (listRows lists list) ≡ 0
     → replay (cellsOf list) (graphIn list) (map name (reduceSteps list)) ≡ some (reduceSteps list)
 reduce-allowed list h = reduce-replay (cellsOf list) (list-graph list h)
 
@@ -62,13 +64,13 @@ module _ (list : List ℕ) {n slots trail points steps : ℕ} {w1′ w2′ : Lis
       ∙ ap (λ (i : ℕ). writeFile slipLayout (record { cells = i; extra = []; entries = map nameFields ss }))
       (d .cells)
 
-  pub reduce-passed : (lent : List ℕ) → first (listStart list lent) ≡ 0
+  pub reduce-passed : (few : Bool) → first (callRows few list) ≡ 0
       → (slip short : List ℕ) {slip′ short′ : List ℕ} {a : Answer}
       → Does [] ((takenFile n steps w2′, slip, slip′)
       ∷ (leftFile n points (graphOf slots w1′), short, short′) ∷ []) a
-      → Does (listStart list lent) ((slipFile list ss, slip, slip′) ∷ (shortFile list ss, short, short′) ∷ []) a
-  reduce-passed lent z slip short {slip′} {short′} {a} p =
-      passed (listStart list lent) [] (omega arith) (z)
+      → Does (callRows few list) ((slipFile list ss, slip, slip′) ∷ (shortFile list ss, short, short′) ∷ []) a
+  reduce-passed few z slip short {slip′} {short′} {a} p =
+      passed (callRows few list) [] (omega arith) z
       (subst (λ (f : List ℕ). Of (slipFile list ss) f) (left-file list ss (d .cells) reduce-after)
       (subst (λ (f : List ℕ). Of f (leftFile n points (graphOf slots w1′))) slip-same p))
     where

@@ -1,7 +1,8 @@
 -- Replay. In order: what its steps leave may be written (`left-file`, `replay-left`), and that is what replay is to
 -- write (`replay-passed`). Assumes nothing.
 use mathlib.Core.Path.{_≡_, sym, ap, subst, _∙_}
-use mathlib.Core.List.{List, [], _∷_, map}
+use mathlib.Core.Bool.{Bool}
+use mathlib.Core.List.{List, [], _∷_, _++_, map}
 use mathlib.Core.Option.{Option, some, none}
 use Prim.Native.Nat.{ℕ}
 use native.Mathlib.Omega.{arith}
@@ -11,10 +12,11 @@ use Rattle.cellfile.specs.Files.{cellsOf, stepsOf, asName}
 use Rattle.checks.specs.Refusals.{first}
 use Rattle.cellfile.specs.Answers.{Answer}
 use Rattle.slots.specs.Slots.{graphOf}
-use Rattle.starting.specs.Steps.{graphIn, stepsOn}
+use Rattle.starting.specs.Steps.{graphIn, stepsOn, slipRows}
+use Rattle.checks.specs.Calls.{callRows}
 use Rattle.reduction.specs.Calls.{shortFile, replayShort}
 use Rattle.running.specs.Running.{After}
-use Rattle.starting.specs.Starting.{slipStart, StartDone}
+use Rattle.starting.specs.Starting.{StartDone}
 use Rattle.running.specs.Pairs.{PairsLeft}
 use Rattle.reduction.specs.Writing.{leftFile}
 use Rattle.checks.specs.Answering.{Does}
@@ -36,12 +38,13 @@ module _ (list slip : List ℕ) {n slots trail points steps : ℕ} {w1′ w2′ 
   replay-left =
       left-there list (d .accepted) (map asName (stepsOf slip)) (d .taken) (d .steps-are) (d .cells) (d .after)
 
-  pub replay-passed : (lent : List ℕ) → first (slipStart list slip lent) ≡ 0
+  pub replay-passed : (few : Bool) → first (callRows few list ++ slipRows list slip) ≡ 0
       → (out : List ℕ) {out′ : List ℕ} {a : Answer}
       → Does [] ((leftFile n points (graphOf slots w1′), out, out′) ∷ []) a
-      → Does (slipStart list slip lent) ((replayShort list slip, out, out′) ∷ []) a
-  replay-passed lent z out {out′} {a} p =
-      passed (slipStart list slip lent) [] (omega arith) z (subst (λ file. Does [] ((file, out, out′) ∷ []) a) same p)
+      → Does (callRows few list ++ slipRows list slip) ((replayShort list slip, out, out′) ∷ []) a
+  replay-passed few z out {out′} {a} p =
+      passed (callRows few list ++ slipRows list slip) [] (omega arith) z
+      (subst (λ file. Does [] ((file, out, out′) ∷ []) a) same p)
     where
       same : leftFile n points (graphOf slots w1′) ≡ replayShort list slip
       same =

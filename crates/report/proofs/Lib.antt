@@ -2,7 +2,6 @@
 pub mod Appending
 pub mod Putting
 pub mod Decimal
-pub mod Found
 pub mod Lines
 pub mod Fields
 pub mod Making

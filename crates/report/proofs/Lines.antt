@@ -1,156 +1,136 @@
--- The loop that writes the lines of a pairing's pairs. In order: lines of more entries; the merge from places i and j
--- on (`foundFrom`); what is written when these are reached (`Reached`), at the start, after an entry that is the pair's
--- and after one that is not, and at the end. Assumes nothing.
+-- The loop that writes the lines of a pairing's pairs. In order: entries and pairs ahead, and the points of the first
+-- pair by a search (`ahead-next`); what is written when places i and j are reached (`Reached`), at the start, after a
+-- pair and at the end. Assumes nothing.
 use mathlib.Core.Path.{_≡_, refl, sym, ap, subst, _∙_}
-use mathlib.Core.Bool.{false}
-use mathlib.Core.List.{List, [], _∷_, _++_, append-assoc, append-nil, map}
+use mathlib.Core.Bool.{Bool, true, false, cond}
+use mathlib.Core.List.{List, [], _∷_}
+use mathlib.Core.Option.{some, none}
 use Prim.Native.Nat.{ℕ, _+_, _*_, _≤_, _<_}
 use native.Mathlib.Omega.{arith}
-use lib.Dec.{eqb}
-use lib.ListN.{drop}
-use borrow.Author.Tests.{eq-eqb, ne-eqb}
+use lib.ListN.{length, drop, drop-of-length-le}
+use Rattle.matching.specs.Lists.{All}
 use Rattle.matching.specs.Pairs.{Pair}
-use Rattle.matching.specs.Listed.{Entry, total}
-use Rattle.cellfile.specs.Fields.{readRecord}
-use Rattle.cellfile.specs.Files.{storeList, pairing as pairingLayout, asEntry, asPair, key}
-use Rattle.cellfile.specs.Reads.{EntryRead, PairRead}
-use Rattle.cellfile.specs.Words.{entries, pairs}
-use Rattle.cellfile.specs.declared.decode.Entry as decoded
+use Rattle.matching.specs.Listed.{Entry, joined, listed, total}
+use Rattle.matching.proofs.Alls.{all-map, each-is-all}
+use Rattle.cellfile.specs.Files.{countOf, entriesAll, pairsOf, pairKey}
+use Rattle.cellfile.specs.Reads.{PairRead, pointsTop}
 use Rattle.cellfile.specs.declared.decode.PairEntry.{PairEntry}
-use Rattle.cellfile.proofs.Walk.{from, from-start, from-end, from-next}
-use Rattle.report.specs.Printed.{line, pairLines}
-use Rattle.report.specs.Writing.{Appended, found, LinesOf}
-use Rattle.report.specs.declared.pairs.Lines.{Lines}
+use Rattle.cellfile.proofs.Walk.{pairs-count, pair-next}
+use Rattle.checks.specs.Merging.{sought, Seeks}
+use Rattle.checks.specs.declared.Match.{Match}
+use Rattle.checks.proofs.Ascending.{Ordered, OrderedPairs}
+use Rattle.checks.proofs.Merge.{Ascending, AscendingPairs, SoughtIs, sought-is, pairs-behind, entries-ascend}
+use Rattle.checks.proofs.Merge.{pairs-ascend}
+use Rattle.report.specs.Printed.{line, pairLines, withPoints}
+use Rattle.report.specs.Writing.{Appended, LinesThere, LinesOf}
 use Rattle.report.proofs.Appending.{append-none, append-both}
 use Rattle.report.proofs.Decimal.{pair-line-few}
 
--- ---- lines of more entries
+-- ---- entries and pairs ahead
 
-abbrev pub lineOf : Entry → List ℕ
-lineOf e = line "pair" (e .0 ∷ e .1 ∷ e .2 ∷ [])
+-- The entries join the pair, and give it the points that all entries give it.
+abbrev Says : List Entry → List Entry → Pair → Type 0
+Says all es p = (0 < joined es (p .0) (p .1)) × (listed es (p .0) (p .1) ≡ listed all (p .0) (p .1))
 
-lines-more : (es : List Entry) (e : Entry) → pairLines (es ++ e ∷ []) ≡ pairLines es ++ lineOf e
-lines-more [] e = append-nil (lineOf e)
-lines-more (x ∷ es) e =
-    ap (λ (s : List ℕ). lineOf x ++ s) (lines-more es e) ∙ sym (append-assoc (lineOf x) (pairLines es) (lineOf e))
+-- Entries in order, and pairs in order of which they say what all entries say.
+pub record Ahead (all es : List Entry) (ps : List Pair) : Type 0 where
+  pub entries : Ascending es
+  pub pairs : AscendingPairs ps
+  pub said : All (Says all es) ps
 
-total-more : (es : List Entry) (e : Entry) → total (es ++ e ∷ []) ≡ total es + e .2
-total-more [] e = omega arith
-total-more (x ∷ es) e = omega (arith, total-more es e)
+-- a pair that is an entry is found
+there : (es : List Entry) (p : Pair) (t : Bool) (x : ℕ × List Entry) → 0 < joined es (p .0) (p .1)
+    → SoughtIs es p (cond t (some x) none) → SoughtIs es p (some x)
+there es p true x l h = h
+there es p false x l h = absurd (omega arith)
+
+-- entries that say the same of the pairs behind p say what all entries say
+said-on : (all es rest : List Entry) (p : Pair) (ps : List Pair) → OrderedPairs ps
+    → All (λ (q : Pair). pairKey p < pairKey q) ps
+    → ((q : Pair) → Ordered (q .0) (q .1) → pairKey p < pairKey q
+    → (joined rest (q .0) (q .1) ≡ joined es (q .0) (q .1)) × (listed rest (q .0) (q .1) ≡ listed es (q .0) (q .1)))
+    → All (Says all es) ps → All (Says all rest) ps
+said-on all es rest p [] o l f h = tt
+said-on all es rest p (q ∷ ps) o l f h =
+    let s = f q (o .0) (l .0) in
+    ((omega (arith, s .0, h .0 .0), s .1 ∙ h .0 .1), said-on all es rest p ps (o .1) (l .1) f (h .1))
+
+ahead-next : (all es : List Entry) (p : Pair) (ps : List Pair) (t : Bool) (x : ℕ × List Entry)
+    → Ahead all es (p ∷ ps) → sought es p ≡ cond t (some x) none
+    → (x .0 ≡ listed all (p .0) (p .1)) × Ahead all (x .1) ps
+ahead-next all es p ps t x a e =
+    let found = sought-is es p (a .entries) (a .pairs .ordered .0) in
+    let f = there es p t x (a .said .0 .0) (subst (SoughtIs es p) e found) in
+    let b = pairs-behind p ps (a .pairs) in (
+      sym (f .1) ∙ a .said .0 .1,
+      record {
+        entries = f .2;
+        pairs = b .0;
+        said = said-on all es (x .1) p ps (b .0 .ordered) (b .1) (f .3) (a .said .1);
+      },
+    )
 
 -- ---- the loop
 
-found-none : (es : List Entry) → found es [] ≡ []
-found-none [] = refl
-found-none (e ∷ es) = refl
+module _ (list other : List ℕ) where
+  abbrev es : List Entry
+  es = entriesAll list
 
-found-past : (e : Entry) (es : List Entry) (p : Pair) (ps : List Pair)
-    → eqb (key (e .0) (e .1)) (key (p .0) (p .1)) ≡ false → found (e ∷ es) (p ∷ ps) ≡ found es (p ∷ ps)
-found-past e es p ps h = rw h
+  abbrev ps : List Pair
+  ps = pairsOf other
 
-module _ (list other : List ℕ) (m k : ℕ) where
-  abbrev pub whole : List Entry
-  whole = found (entries m (drop 4 list)) (pairs k (drop 4 other))
-
-  -- The merge from places i and j on.
-  abbrev pub foundFrom : ℕ → ℕ → List Entry
-  foundFrom i j =
-      found (map asEntry (from (storeList .entry) list 4 m i)) (map asPair (from (pairingLayout .entry) other 4 k j))
-
-  -- The lines of the entries found before places i and j end at `end`, their points are `sum`.
+  -- What is left of the pairs, written at `end` of the text, makes the lines of all; so do their points with the sum.
   pub record Reached (text₀ : List ℕ) (at i j : ℕ) (text : List ℕ) (end sum : ℕ) : Type 0 where
-    pub done : List Entry
-    pub splits : whole ≡ done ++ foundFrom i j
-    pub lines : Appended text₀ at (pairLines done) text end
-    pub sum-is : sum ≡ total done
+    pub lines : (t : List ℕ) (e : ℕ) → Appended text end (pairLines (withPoints es (drop j ps))) t e
+        → Appended text₀ at (pairLines (withPoints es ps)) t e
+    pub sums : sum + total (withPoints es (drop j ps)) ≡ total (withPoints es ps)
+    pub ahead : Ahead es (drop i es) (drop j ps)
+    pub long : length text ≡ length text₀
     pub room : end ≤ at + 68 * j
-    pub small : sum ≤ 1048576 * j
+    pub small : sum ≤ pointsTop * j
 
   module _ (text₀ : List ℕ) (at : ℕ) where
-    pub reach-none : Reached text₀ at 0 0 text₀ at 0
-    reach-none = record {
-      done = [];
-      splits = rw (from-start (storeList .entry) list 4 m, from-start (pairingLayout .entry) other 4 k);
-      lines = append-none text₀ at;
-      sum-is = refl;
-      room = omega arith;
-      small = omega arith;
-    }
+    pub reach-none : {m k : ℕ} → LinesThere list m other k → Reached text₀ at 0 0 text₀ at 0
+    reach-none h =
+        record {
+          lines = λ t e p. p;
+          sums = omega arith;
+          ahead = record {
+            entries = entries-ascend list (h .accepted);
+            pairs = pairs-ascend list (h .accepted) other (h .formed);
+            said = all-map (λ (x : Pair) l. (l, refl)) ps (each-is-all (λ a b. 0 < joined es a b) ps (h .held));
+          };
+          long = refl;
+          room = omega arith;
+          small = omega arith;
+        }
 
     module _ {i j : ℕ} {text : List ℕ} {end sum : ℕ} (r : Reached text₀ at i j text end sum) where
-      -- nothing is left
-      reach-all : (l : Lines) → l .end ≡ end → l .total ≡ sum → foundFrom i j ≡ []
-          → LinesOf whole text₀ at text l
-      reach-all l e t z = record {
-        lines = rw (same, e) (r .lines);
-        sum-is = t ∙ r .sum-is ∙ ap total (sym same);
+      pub reach-all : countOf other ≤ j → LinesOf (withPoints es ps) text₀ at text (record { end = end; total = sum })
+      reach-all h =
+          let none = drop-of-length-le ps {i = j} (omega (arith, pairs-count other)) in
+          record {
+            lines = r .lines text end (rw none (append-none text end));
+            sum-is = omega (arith, r .sums, ap (λ qs. total (withPoints es qs)) none);
+          }
+
+      pub reach-next : (l : j < countOf other) (p : PairEntry) (q : PairRead other j p) (f : Match)
+          → Seeks list i (p .a, p .b) f → {text′ : List ℕ} {end′ : ℕ}
+          → Appended text end (line "pair" (p .a ∷ p .b ∷ f .points ∷ [])) text′ end′
+          → Reached text₀ at (f .next) (j + 1) text′ end′ (sum + f .points)
+      reach-next l p q f s {text′} {end′} a = record {
+        lines = λ t e b. r .lines t e (rw (next, ← here .0) (append-both a b));
+        sums = omega (arith, r .sums, ap (λ qs. total (withPoints es qs)) next, here .0);
+        ahead = here .1;
+        long = a .long ∙ r .long;
+        room = omega (arith, a .end-is, r .room, pair-line-few (p .a) (p .b) (f .points));
+        small = omega (arith, r .small, s .points-fit);
       }
         where
-          same : whole ≡ r .done
-          same = r .splits ∙ ap (λ (es : List Entry). r .done ++ es) z ∙ append-nil (r .done)
+          next : drop j ps ≡ (p .a, p .b) ∷ drop (j + 1) ps
+          next = pair-next other j p l q
 
-      pub reach-entries : (l : Lines) → l .end ≡ end → l .total ≡ sum → m ≤ i → LinesOf whole text₀ at text l
-      reach-entries l e t h = reach-all l e t (rw (from-end (storeList .entry) list 4 m i h))
-
-      pub reach-pairs : (l : Lines) → l .end ≡ end → l .total ≡ sum → k ≤ j → LinesOf whole text₀ at text l
-      reach-pairs l e t h =
-          reach-all l e t
-          (rw (from-end (pairingLayout .entry) other 4 k j h)
-          (found-none (map asEntry (from (storeList .entry) list 4 m i))))
-
-      -- an entry and a pair are met
-      module _ (more-entries : i < m) (more-pairs : j < k)
-          (e : decoded.Entry) (g : EntryRead (drop (4 + 5 * i) list) e)
-          (p : PairEntry) (h : PairRead (drop (4 + 3 * j) other) p) where
-        abbrev met : Entry
-        met = (e .a, e .b, e .points)
-
-        pub reach-same : key (e .a) (e .b) ≡ key (p .a) (p .b) → {text′ : List ℕ} {end′ : ℕ}
-            → Appended text end (lineOf met) text′ end′
-            → Reached text₀ at (i + 1) (j + 1) text′ end′ (sum + e .points)
-        reach-same s {text′} {end′} a = record {
-          done = r .done ++ met ∷ [];
-          splits = r .splits ∙ ap (λ (es : List Entry). r .done ++ es) next
-              ∙ sym (append-assoc (r .done) (met ∷ []) (foundFrom (i + 1) (j + 1)));
-          lines =
-              subst (λ (s : List ℕ). Appended text₀ at s text′ end′) (sym (lines-more (r .done) met))
-              (append-both (r .lines) a);
-          sum-is = omega (arith, r .sum-is, total-more (r .done) met);
-          room = omega (arith, a .end-is, r .room, pair-line-few (e .a) (e .b) (e .points));
-          small = omega (arith, r .small, g .points-fit);
-        }
-          where
-            next : foundFrom i j ≡ met ∷ foundFrom (i + 1) (j + 1)
-            next =
-                rw (
-                  from-next (storeList .entry) list 4 m i more-entries,
-                  from-next (pairingLayout .entry) other 4 k j more-pairs,
-                  ← g .a,
-                  ← g .b,
-                  ← g .points,
-                  ← h .a,
-                  ← h .b,
-                  eq-eqb (key (e .a) (e .b)) (key (p .a) (p .b)) s,
-                )
-
-        pub reach-other : (key (e .a) (e .b) ≡ key (p .a) (p .b) → ⊥) → Reached text₀ at (i + 1) j text end sum
-        reach-other s = record {
-          done = r .done;
-          splits = r .splits ∙ ap (λ (es : List Entry). r .done ++ es) next;
-          lines = r .lines;
-          sum-is = r .sum-is;
-          room = r .room;
-          small = r .small;
-        }
-          where
-            next : foundFrom i j ≡ foundFrom (i + 1) j
-            next =
-                rw (
-                  from-next (storeList .entry) list 4 m i more-entries,
-                  from-next (pairingLayout .entry) other 4 k j more-pairs,
-                )
-                (found-past (asEntry (readRecord (storeList .entry) (drop (4 + 5 * i) list)))
-                (map asEntry (from (storeList .entry) list 4 m (i + 1)))
-                (asPair (readRecord (pairingLayout .entry) (drop (4 + 3 * j) other)))
-                (map asPair (from (pairingLayout .entry) other 4 k (j + 1)))
-                (rw (← g .a, ← g .b, ← h .a, ← h .b) (ne-eqb (key (e .a) (e .b)) (key (p .a) (p .b)) s)))
+          here : (f .points ≡ listed es (p .a) (p .b)) × Ahead es (drop (f .next) es) (drop (j + 1) ps)
+          here =
+              ahead-next es (drop i es) (p .a, p .b) (drop (j + 1) ps) (f .there) (f .points, drop (f .next) es)
+              (rw next at (r .ahead)) (s .is)

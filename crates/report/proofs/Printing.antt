@@ -12,9 +12,10 @@ use lib.Seq.{take-append-seam}
 use borrow.Author.Tests.{le-ltb, ne-eqb}
 use Rattle.matching.specs.Graph.{cellsLeft}
 use Rattle.matching.specs.Steps.{Step}
-use Rattle.cellfile.specs.Files.{storeList, cellsOf, onto}
-use Rattle.checks.specs.Refusals.{Row, first, fewWords, listRows, crowded, shortOutput}
+use Rattle.cellfile.specs.Files.{cellsOf, onto}
+use Rattle.checks.specs.Refusals.{Row, first, fewWords, lists, listRows, crowded, shortOutput}
 use Rattle.cellfile.specs.Answers.{answer}
+use Rattle.checks.specs.Calls.{roomRow}
 use Rattle.checks.proofs.Layers.{answer-refused, answer-accepted, first-refused, first-passed}
 use Rattle.checks.proofs.Rows.{list-none}
 use Rattle.reduction.specs.Calls.{slipFile, shortFile, reducing}
@@ -52,20 +53,19 @@ module _ (list : List ℕ) (a b : ℕ) (room-a : 8192 ≤ a) (room-b : 8192 ≤ 
   module _ (slip-room short-room : ℕ) where
     -- 12 comes after the list's rows
     abbrev rows : List Row
-    rows =
-        (12, shortOutput ((slip-room, length (slipFile list ss)) ∷ (short-room, length (shortFile list ss)) ∷ [])) ∷ []
+    rows = roomRow ((slip-room, slipFile list ss) ∷ (short-room, shortFile list ss) ∷ []) ∷ []
 
     abbrev values : List ℕ
     values = length (slipFile list ss) ∷ length (shortFile list ss) ∷ []
 
-    reducing-is : reducing list (a ∷ b ∷ []) slip-room short-room ≡ answer (first (listRows storeList list ++ rows))
+    reducing-is : reducing list (a ∷ b ∷ []) slip-room short-room ≡ answer (first (listRows lists list ++ rows))
         values
     reducing-is =
-        ap (λ (t : Bool). answer (cond t 1 (first (listRows storeList list ++ rows))) values) enough
+        ap (λ (t : Bool). answer (cond t 1 (first (listRows lists list ++ rows))) values) enough
 
     module _ (slip-long : 2052 ≤ slip-room) (short-long : 32780 ≤ short-room) where
       -- an accepted list has room for its files
-      roomy : first (listRows storeList list) ≡ 0 → first rows ≡ 0
+      roomy : first (listRows lists list) ≡ 0 → first rows ≡ 0
       unfolding shortOutput
       roomy h =
           rw (
@@ -76,56 +76,62 @@ module _ (list : List ℕ) (a b : ℕ) (room-a : 8192 ≤ a) (room-b : 8192 ≤ 
       -- the list's rows decide
       pub reduce-refuses : {k : ℕ} → (k, []) ≡ reducing list (a ∷ b ∷ []) slip-room short-room
           → line "refused" (k ∷ []) ≡ printed list
-      reduce-refuses {k} e = go (first (listRows storeList list)) refl
+      reduce-refuses {k} e = go (first (listRows lists list)) refl
         where
-          r : (0 < first (listRows storeList list ++ rows)) × (k ≡ first (listRows storeList list ++ rows))
+          r : (0 < first (listRows lists list ++ rows)) × (k ≡ first (listRows lists list ++ rows))
           r = answer-refused _ k _ _ (e ∙ reducing-is)
 
           crowdedAfter : Bool
           crowdedAfter = crowded (cellsLeft (cellsOf list) (graphAfter list ss))
 
-          go : (i : ℕ) → first (listRows storeList list) ≡ i → line "refused" (k ∷ []) ≡ printed list
+          go : (i : ℕ) → first (listRows lists list) ≡ i → line "refused" (k ∷ []) ≡ printed list
           go zero z =
-              let y : first (listRows storeList list ++ rows) ≡ 0 =
-              first-passed (listRows storeList list) rows (list-none storeList list z) ∙ roomy z in
+              let y : first (listRows lists list ++ rows) ≡ 0 =
+              first-passed (listRows lists list) rows (list-none lists list z) ∙ roomy z in
               absurd (omega (arith, y, r .0))
           go (suc i) z =
-              let l : 0 < first (listRows storeList list) = omega (arith, z) in
+              let l : 0 < first (listRows lists list) = omega (arith, z) in
               refused-printed list k (omega (arith, r))
-              (first-refused (listRows storeList list) ((11, crowdedAfter) ∷ []) l
-              ∙ sym (first-refused (listRows storeList list) rows l)
+              (first-refused (listRows lists list) ((11, crowdedAfter) ∷ []) l
+              ∙ sym (first-refused (listRows lists list) rows l)
               ∙ sym (r .1))
 
+    -- two lengths, never one
+    pub reduce-two : {s : ℕ} → (0, s ∷ []) ≡ reducing list (a ∷ b ∷ []) slip-room short-room → ⊥
+    reduce-two {s} e =
+        let r = answer-accepted (first (listRows lists list ++ rows)) (s ∷ []) values (e ∙ reducing-is) in
+        omega (arith, ap length (r .1))
+
     pub reduce-passes : {s t : ℕ} → (0, s ∷ t ∷ []) ≡ reducing list (a ∷ b ∷ []) slip-room short-room
-        → (first (listRows storeList list) ≡ 0) × (s ≡ length (slipFile list ss)) × (t ≡ length (shortFile list ss))
+        → (first (listRows lists list) ≡ 0) × (s ≡ length (slipFile list ss)) × (t ≡ length (shortFile list ss))
     reduce-passes {s} {t} e =
-        let r = answer-accepted (first (listRows storeList list ++ rows)) (s ∷ t ∷ []) values (e ∙ reducing-is) in (
-          go (first (listRows storeList list)) refl (r .0),
+        let r = answer-accepted (first (listRows lists list ++ rows)) (s ∷ t ∷ []) values (e ∙ reducing-is) in (
+          go (first (listRows lists list)) refl (r .0),
           ap (λ (vs : List ℕ). getD vs 0 0) (r .1),
           ap (λ (vs : List ℕ). getD vs 1 0) (r .1),
         )
       where
-        go : (i : ℕ) → first (listRows storeList list) ≡ i → first (listRows storeList list ++ rows) ≡ 0
-            → first (listRows storeList list) ≡ 0
+        go : (i : ℕ) → first (listRows lists list) ≡ i → first (listRows lists list ++ rows) ≡ 0
+            → first (listRows lists list) ≡ 0
         go zero z q = z
         go (suc i) z q =
-            absurd (omega (arith, first-refused (listRows storeList list) rows (omega (arith, z)), q, z))
+            absurd (omega (arith, first-refused (listRows lists list) rows (omega (arith, z)), q, z))
 
   -- ---- pair of an accepted list
 
-  module _ (h : first (listRows storeList list) ≡ 0) (room : ℕ) (long : 1540 ≤ room) where
+  module _ (h : first (listRows lists list) ≡ 0) (room : ℕ) (long : 1540 ≤ room) where
     abbrev full : Bool
     full = crowded (cellsLeft (cellsOf list) (graphAfter list ss))
 
     refusal-is : refusal list ≡ cond full 11 0
-    refusal-is = first-passed (listRows storeList list) ((11, full) ∷ []) (list-none storeList list h)
+    refusal-is = first-passed (listRows lists list) ((11, full) ∷ []) (list-none lists list h)
 
     -- 11 and 12 come after the list's rows
     abbrev last-rows : Bool → List Row
     last-rows t = (11, full) ∷ (12, t) ∷ []
 
     abbrev short : Bool
-    short = shortOutput ((room, length (pairingFile list)) ∷ [])
+    short = shortOutput ((room, pairingFile list) ∷ [])
 
     roomy-pairing : short ≡ false
     unfolding shortOutput
@@ -134,9 +140,9 @@ module _ (list : List ℕ) (a b : ℕ) (room-a : 8192 ≤ a) (room-b : 8192 ≤ 
 
     pairing-is : pairing list (a ∷ b ∷ []) room ≡ answer (cond full 11 0) (length (pairingFile list) ∷ [])
     pairing-is =
-        ap (λ (t : Bool). answer (cond t 1 (first (listRows storeList list ++ last-rows short))) values) enough
+        ap (λ (t : Bool). answer (cond t 1 (first (listRows lists list ++ last-rows short))) values) enough
         ∙ ap (λ (i : ℕ). answer i values)
-        (first-passed (listRows storeList list) (last-rows short) (list-none storeList list h)
+        (first-passed (listRows lists list) (last-rows short) (list-none lists list h)
         ∙ ap (λ (t : Bool). first (last-rows t)) roomy-pairing)
       where
         values : List ℕ
@@ -146,6 +152,12 @@ module _ (list : List ℕ) (a b : ℕ) (room-a : 8192 ≤ a) (room-b : 8192 ≤ 
     pair-refuses {k} e =
         let r = answer-refused (cond full 11 0) k (length (pairingFile list)) [] (e ∙ pairing-is) in
         refused-printed list k (omega (arith, r)) (refusal-is ∙ sym (r .1))
+
+    -- one length, never two
+    pub pair-one : {s t : ℕ} → (0, s ∷ t ∷ []) ≡ pairing list (a ∷ b ∷ []) room → ⊥
+    pair-one {s} {t} e =
+        let r = answer-accepted (cond full 11 0) (s ∷ t ∷ []) (length (pairingFile list) ∷ []) (e ∙ pairing-is) in
+        omega (arith, ap length (r .1))
 
     pub pair-passes : {k : ℕ} → (0, k ∷ []) ≡ pairing list (a ∷ b ∷ []) room
         → (k ≡ length (pairingFile list)) × (made list ≡ printed list)

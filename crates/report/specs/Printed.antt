@@ -10,8 +10,8 @@ use Rattle.matching.specs.Pairs.{Pair}
 use Rattle.matching.specs.Listed.{Entry, listed, points, shortList}
 use Rattle.matching.specs.Graph.{cellsLeft}
 use Rattle.matching.specs.Slip.{carried}
-use Rattle.cellfile.specs.Files.{storeList, cellsOf, entriesOf, pairsOf}
-use Rattle.checks.specs.Refusals.{first, listRows, crowded}
+use Rattle.cellfile.specs.Files.{cellsOf, pairsOf, entriesAll}
+use Rattle.checks.specs.Refusals.{first, lists, listRows, crowded}
 use Rattle.starting.specs.Steps.{graphIn, reduceSteps}
 use Rattle.lifting.specs.Calls.{graphAfter, pairingFile}
 
@@ -57,13 +57,13 @@ module _ (list : List ℕ) where
   made =
       report (length (reduceSteps list)) (carried (graphIn list) (reduceSteps list))
       (length (shortList (cellsOf list) (graphAfter list (reduceSteps list))))
-      (withPoints (entriesOf storeList list) (pairsOf (pairingFile list)))
-      (points (entriesOf storeList list) (pairsOf (pairingFile list)))
+      (withPoints (entriesAll list) (pairsOf (pairingFile list)))
+      (points (entriesAll list) (pairsOf (pairingFile list)))
 
   -- The first refusal of the program, 0 for none: 2 to 6, and 11.
   abbrev pub refusal : ℕ
   refusal =
-      first (listRows storeList list
+      first (listRows lists list
       ++ (11, crowded (cellsLeft (cellsOf list) (graphAfter list (reduceSteps list)))) ∷ [])
 
   -- 'A refusal prints only the line "refused" with its number.'

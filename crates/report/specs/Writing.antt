@@ -1,14 +1,13 @@
 -- Text made in a buffer, one part after the other. Inner contracts cite this.
 use mathlib.Core.Path.{_≡_}
-use mathlib.Core.Bool.{cond}
-use mathlib.Core.List.{List, [], _∷_, _++_}
-use Prim.Native.Nat.{ℕ, _+_, _≤_}
-use lib.Dec.{eqb}
+use mathlib.Core.Bool.{false}
+use mathlib.Core.List.{List, _++_}
+use Prim.Native.Nat.{ℕ, _+_, _≤_, _<_}
 use lib.ListN.{length, take}
-use Rattle.matching.specs.Pairs.{Pair}
-use Rattle.matching.specs.Listed.{Entry, total}
-use Rattle.cellfile.specs.Files.{storeList, key}
-use Rattle.checks.specs.Refusals.{first, listRows}
+use Rattle.matching.specs.Pairs.{Each}
+use Rattle.matching.specs.Listed.{Entry, joined, total}
+use Rattle.cellfile.specs.Files.{cellsOf, countOf, entriesAll, pairsOf}
+use Rattle.checks.specs.Refusals.{first, lists, listRows, badPairing}
 use Rattle.starting.specs.Steps.{reduceSteps}
 use Rattle.reduction.specs.Calls.{slipFile, shortFile}
 use Rattle.report.specs.Printed.{pairLines}
@@ -24,12 +23,13 @@ pub record Appended (text : List ℕ) (at : ℕ) (bytes text′ : List ℕ) (end
 abbrev pub Made : List ℕ → List ℕ → ℕ → Type 0
 Made bytes text′ r = (r ≤ length text′) × (take r text′ ≡ bytes)
 
--- The entries of the pairs, both ascending. Law: proofs/Found, `found-is`.
-abbrev pub found : List Entry → List Pair → List Entry
-found [] ps = []
-found (e ∷ es) [] = []
-found (e ∷ es) (p ∷ ps) =
-    cond (eqb (key (e .0) (e .1)) (key (p .0) (p .1))) (e ∷ found es ps) (found es (p ∷ ps))
+-- A list of m entries and a pairing of k pairs that are not refused, and every pair is an entry of the list.
+pub record LinesThere (list : List ℕ) (m : ℕ) (pairing : List ℕ) (k : ℕ) : Type 0 where
+  pub accepted : first (listRows lists list) ≡ 0
+  pub formed : badPairing (cellsOf list) pairing ≡ false
+  pub held : Each (λ a b. 0 < joined (entriesAll list) a b) (pairsOf pairing)
+  pub entries : m ≡ countOf list
+  pub pairs : k ≡ countOf pairing
 
 -- The lines of entries, and the sum of their points.
 pub record LinesOf (es : List Entry) (text : List ℕ) (at : ℕ) (text′ : List ℕ) (r : Lines) : Type 0 where
@@ -38,6 +38,6 @@ pub record LinesOf (es : List Entry) (text : List ℕ) (at : ℕ) (text′ : Lis
 
 -- A list that refusals 2 to 6 pass, and what reduce wrote of it.
 pub record ReducedThere (list : List ℕ) (slip-length : ℕ) (short : List ℕ) : Type 0 where
-  pub accepted : first (listRows storeList list) ≡ 0
+  pub accepted : first (listRows lists list) ≡ 0
   pub slip-is : slip-length ≡ length (slipFile list (reduceSteps list))
   pub short-is : short ≡ shortFile list (reduceSteps list)

@@ -3,8 +3,7 @@ mod pairs;
 mod text;
 
 use cellfile::decode;
-use lifting::Paired;
-use reduction::Reduced;
+use checks::Lengths;
 ghost use mathlib.Core.Path.{_≡_};
 ghost use Prim.Native.Nat.{_≤_};
 ghost use lib.ListN.{length, take};
@@ -37,7 +36,7 @@ fn print_made(
     text::line(text, lines.end, b"total", lines.total)
 }
 
-// Pairs a list that reduce has taken, and prints refusal 11 or the fields.
+// Pairs a list that reduce has taken, and prints refusal 11 or the fields. Pair answers one length, never two.
 fn print_paired(
     list: &[u8],
     work_a: &mut [u64],
@@ -52,12 +51,13 @@ fn print_paired(
     ensures { λ r. ⌜ Made (printed (now (list .entry))) (now (text .exit)) r ⌝ }
 {
     match lifting::pair(list, work_a, work_b, pairing) {
-        Paired::Refused(k) => text::line(text, 0, b"refused", k as u64),
-        Paired::Length(k) => print_made(list, slip_length, short, &pairing[..k], text),
+        Lengths::Refused(k) => text::line(text, 0, b"refused", k as u64),
+        Lengths::One(k) => print_made(list, slip_length, short, &pairing[..k], text),
+        Lengths::Two { .. } => 0,
     }
 }
 
-// Reduces and pairs a list in buffers that are long enough.
+// Reduces and pairs a list in buffers that are long enough. Reduce answers two lengths, never one.
 fn print_in(
     list: &[u8],
     work_a: &mut [u64],
@@ -72,10 +72,11 @@ fn print_in(
     ensures { λ r. ⌜ Made (printed (now (list .entry))) (now (text .exit)) r ⌝ }
 {
     match reduction::reduce(list, work_a, work_b, slip, short) {
-        Reduced::Refused(k) => text::line(text, 0, b"refused", k as u64),
-        Reduced::Lengths { slip: s, short: t } => {
-            print_paired(list, work_a, work_b, s, &short[..t], pairing, text)
+        Lengths::Refused(k) => text::line(text, 0, b"refused", k as u64),
+        Lengths::Two { first, second } => {
+            print_paired(list, work_a, work_b, first, &short[..second], pairing, text)
         }
+        Lengths::One(_) => 0,
     }
 }
 

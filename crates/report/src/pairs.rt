@@ -1,10 +1,12 @@
 // The lines of a pairing's pairs with their points in the list: see specs/Writing.
 use crate::text;
 use cellfile::decode;
+use checks;
 ghost use Prim.Native.Nat.{_+_, _*_, _≤_};
-ghost use lib.ListN.{length, drop};
-ghost use Rattle.cellfile.specs.Words.{entries, pairs};
-ghost use Rattle.report.specs.Writing.{found, LinesOf};
+ghost use lib.ListN.{length};
+ghost use Rattle.cellfile.specs.Files.{entriesAll, pairsOf};
+ghost use Rattle.report.specs.Printed.{withPoints};
+ghost use Rattle.report.specs.Writing.{LinesThere, LinesOf};
 
 // Where the lines end, and the sum of the points.
 pub struct Lines {
@@ -12,7 +14,7 @@ pub struct Lines {
     pub total: u64,
 }
 
-// The lines of the entries that are pairs of the pairing. Both files ascend, so each is passed once.
+// The lines of the pairs, with their points in the list. Both files ascend, so each is passed once.
 pub fn pair_lines(
     list: &[u8],
     m: usize,
@@ -21,29 +23,24 @@ pub fn pair_lines(
     text: &mut [u8],
     at: usize,
 ) -> Lines
-    requires { ⌜ (m ≤ 4096) × (4 + 5 * m ≤ length (now list)) × (k ≤ 512) × (4 + 3 * k ≤ length (now pairing))
-        × (at + 68 * k ≤ length (now text)) ⌝ }
-    ensures { λ r. ⌜ LinesOf (found (entries m (drop 4 (now (list .entry)))) (pairs k (drop 4 (now (pairing .entry)))))
+    requires { ⌜ LinesThere (now list) m (now pairing) k × (at + 68 * k ≤ length (now text)) ⌝ }
+    ensures { λ r. ⌜ LinesOf (withPoints (entriesAll (now (list .entry))) (pairsOf (now (pairing .entry))))
         (now (text .entry)) at (now (text .exit)) r ⌝ }
 {
     let mut end = at;
     let mut total: u64 = 0;
     let mut i = 0;
     let mut j = 0;
-    while i < m {
-        if k <= j {
-            return Lines { end, total };
-        }
-        let e_at = 4 + 5 * i;
-        let e = decode::entry_at(&list[e_at..]);
-        let p_at = 4 + 3 * j;
-        let p = decode::pair_at(&pairing[p_at..]);
-        i += 1;
-        if e.a * 1024 + e.b == p.a * 1024 + p.b {
-            end = text::pair_line(text, end, e.a as u64, e.b as u64, e.points);
-            total += e.points;
-            j += 1;
-        }
+    while j < k {
+        let p = decode::pairing_pair(pairing, j);
+        let a = p.a;
+        let b = p.b;
+        let found = checks::seek(list, m, i, a, b);
+        let points = found.points;
+        end = text::pair_line(text, end, a as u64, b as u64, points);
+        total += points;
+        i = found.next;
+        j += 1;
     }
     Lines { end, total }
 }

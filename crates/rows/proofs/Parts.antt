@@ -18,8 +18,10 @@ use Rattle.matching.specs.Best.{barred, H, pays, best, tie, walk}
 use Rattle.matching.specs.Shapes.{last}
 use Rattle.matching.proofs.Tests.{eqT, isT, orT, fails}
 use Rattle.matching.proofs.Members.{no-mem, mem-on, mem-head, mem-not, mem-cases, mem-apart, mem-past, distinct-cons}
+use Rattle.matching.proofs.Upto.{distinct-length}
 use Rattle.matching.proofs.Best.{H-nil, H-cons, best-nil, best-cons}
 use Rattle.matching.proofs.Path.{Alike, Recurs, H-ext, best-ext, length-walk, walk-each, ring-step}
+use Rattle.buffers.specs.Map.{unit}
 use Rattle.rows.specs.Row.{rowPoints, rowWords, RowOf, two, heavy, paying, standing, pathMarks, partMarks}
 use Rattle.rows.specs.Row.{unmarked, marked, less, RowBest}
 use Rattle.rows.proofs.Points.{ApartPath, words-along, two-none, two-path}
@@ -151,23 +153,33 @@ pub length-row : (w : Points) (u : ℕ) (cs : List ℕ) (v : ℕ) → length (ro
 length-row w u [] v = refl
 length-row w u (c ∷ cs) v = ap suc (length-row w c cs v)
 
+-- no more words than cells
+pub row-few : (n u : ℕ) (inner : List ℕ) → distinct inner ≡ true → mem u inner ≡ false → u < n
+    → ((c : ℕ) → mem c inner ≡ true → c < n) → suc (length inner) ≤ n
+row-few n u inner d off l low =
+    distinct-length n (u ∷ inner) (rw (off, d)) (λ c m. go c (mem-cases c u inner m))
+  where
+    go : (c : ℕ) → (u ≡ c) ⊎ (mem c inner ≡ true) → c < n
+    go c (inl e) = omega arith
+    go c (inr m) = low c m
+
 words-front : (w : Points) (u c : ℕ) (cs : List ℕ) (v : ℕ)
     → take (suc (length cs)) (rowWords w u (c ∷ cs) v) ≡ rowWords w u (front (c ∷ cs)) (last c cs)
 words-front w u c [] v = refl
-words-front w u c (d ∷ cs) v = ap (λ ws. (u * 17592186044416 + w u c) ∷ ws) (words-front w c d cs v)
+words-front w u c (d ∷ cs) v = ap (λ ws. (u * unit + w u c) ∷ ws) (words-front w c d cs v)
 
 each-left : (P : ℕ → ℕ → Type 0) (m k : List Pair) → Each P (m ++ k) → Each P m
 each-left P [] k p = tt
 each-left P (e ∷ m) k p = (p .0, each-left P m k (p .1))
 
 abbrev FitsWords : Points → List Pair → Type 0
-FitsWords w es = Each (λ a b. w a b < 17592186044416) es
+FitsWords w es = Each (λ a b. w a b < unit) es
 
 fits-front : (w : Points) (u c : ℕ) (cs : List ℕ) (v : ℕ) → FitsWords w (walk u (c ∷ cs) v)
     → FitsWords w (walk u (front (c ∷ cs)) (last c cs))
 fits-front w u c cs v h =
-    each-left (λ a b. w a b < 17592186044416) (walk u (front (c ∷ cs)) (last c cs)) ((last c cs, v) ∷ [])
-    (subst (λ es. Each (λ a b. w a b < 17592186044416) es) (walk-last u c cs v) h)
+    each-left (λ a b. w a b < unit) (walk u (front (c ∷ cs)) (last c cs)) ((last c cs, v) ∷ [])
+    (subst (λ es. Each (λ a b. w a b < unit) es) (walk-last u c cs v) h)
 
 -- the marks of a part and then k unmarked pairs
 marked-unmarked : (ms : List ℕ) (k : ℕ) (es : List Pair) → marked (ms ++ unmarked k) es ≡ marked ms es

@@ -14,6 +14,7 @@ use Rattle.matching.specs.Best.{H, walk}
 use Rattle.matching.proofs.Members.{mem-on, mem-head, mem-not, mem-apart, distinct-cons}
 use Rattle.matching.proofs.Best.{H-nil, H-cons}
 use Rattle.matching.proofs.Path.{path-step}
+use Rattle.buffers.specs.Map.{unit}
 use Rattle.rows.specs.Row.{rowPoints, rowWords, two}
 
 -- the points of the pairs of a walk
@@ -21,7 +22,7 @@ abbrev pub along : Points → ℕ → List ℕ → ℕ → List ℕ
 along w u [] v = w u v ∷ []
 along w u (c ∷ cs) v = w u c ∷ along w c cs v
 
-pub words-along : (w : Points) (u : ℕ) (cs : List ℕ) (v : ℕ) → Each (λ a b. w a b < 17592186044416) (walk u cs v)
+pub words-along : (w : Points) (u : ℕ) (cs : List ℕ) (v : ℕ) → Each (λ a b. w a b < unit) (walk u cs v)
     → map rowPoints (rowWords w u cs v) ≡ along w u cs v
 words-along w u [] v h = ap (λ x. x ∷ []) (omega (arith, h .0))
 words-along w u (c ∷ cs) v h = ap₂ _∷_ (omega (arith, h .0)) (words-along w c cs v (h .1))

@@ -9,26 +9,27 @@ use lib.ListN.{length, take, drop, replicate}
 use Rattle.matching.specs.Lists.{mem, distinct}
 use Rattle.matching.specs.Pairs.{Pair, Points, ι, Each}
 use Rattle.matching.specs.Best.{H, pays, best, tie, walk}
+use Rattle.buffers.specs.Map.{unit}
 use Rattle.rows.specs.declared.ChainPoints.{ChainPoints}
 use Rattle.rows.specs.declared.RingPoints.{RingPoints}
 
--- A word: the cell that a pair of the row starts from, above the 44 bits of the pair's points.
+-- A word: the cell that a pair of the row starts from, above the bits of the pair's points.
 abbrev pub rowPoints : ℕ → ℕ
-rowPoints x = x % 17592186044416
+rowPoints x = x % unit
 
 -- The words of the row from u over the inner cells to v.
 abbrev pub rowWords : Points → ℕ → List ℕ → ℕ → List ℕ
-rowWords w u [] v = (u * 17592186044416 + w u v) ∷ []
-rowWords w u (c ∷ cs) v = (u * 17592186044416 + w u c) ∷ rowWords w c cs v
+rowWords w u [] v = (u * unit + w u v) ∷ []
+rowWords w u (c ∷ cs) v = (u * unit + w u c) ∷ rowWords w c cs v
 
--- These words are the row: two or more inner cells, no two the same, u and v not among them, points of 44 bits.
+-- These words are the row: two or more inner cells, no two the same, u and v not among them, points that fit a word.
 pub record RowOf (w : Points) (u : ℕ) (inner : List ℕ) (v : ℕ) (ws : List ℕ) : Type 0 where
   pub words : ws ≡ rowWords w u inner v
   pub apart : distinct inner ≡ true
   pub first-off : mem u inner ≡ false
   pub last-off : mem v inner ≡ false
   pub more : 1 < length inner
-  pub fits : Each (λ a b. w a b < 17592186044416) (walk u inner v)
+  pub fits : Each (λ a b. w a b < unit) (walk u inner v)
 
 -- The points of a heaviest pairing of a path by the points of its pairs, and of the path without its first pair.
 -- Law: proofs/Points, `two-path`.

@@ -1,14 +1,16 @@
 // Inner, for the reduction and the way back: the heaviest pairings of the row of a chain or ring, over its words in
 // reading order. Their points, and the best as marks: see specs/Row.
+use buffers::map;
 ghost use mathlib.Core.Path.{_≡_};
 ghost use mathlib.Core.Logic.{_≢_};
 ghost use mathlib.Core.Bool.{cond};
 ghost use mathlib.Core.List.{List, _++_, map};
-ghost use Prim.Native.Nat.{ℕ, _*_, _<_, _≤_, max};
+ghost use Prim.Native.Nat.{ℕ, _*_, _-_, _<_, _≤_, max};
 ghost use lib.Dec.{eqb};
 ghost use lib.ListN.{length};
 ghost use Rattle.matching.specs.Pairs.{Points, ι};
 ghost use Rattle.matching.specs.Best.{pays, tie};
+ghost use Rattle.buffers.specs.Map.{unit};
 ghost use Rattle.rows.specs.Row.{rowPoints, RowOf, heavy, paying, standing, ChainH, RingH, pathMarks, partMarks};
 ghost use Rattle.rows.specs.Row.{Blank, less, RowBest};
 
@@ -26,12 +28,10 @@ pub struct RingPoints {
     pub less_u: u64,
 }
 
-const POINTS_UNIT: u64 = 17592186044416;
-
 fn points_of(x: u64) -> u64
-    ensures { λ r. ⌜ (r ≡ rowPoints x) × (r < 17592186044416) ⌝ }
+    ensures { λ r. ⌜ (r ≡ rowPoints x) × (r < unit) ⌝ }
 {
-    x % POINTS_UNIT
+    x % map::POINTS_UNIT
 }
 
 pub fn larger(a: u64, b: u64) -> u64
@@ -42,8 +42,8 @@ pub fn larger(a: u64, b: u64) -> u64
 
 // The points of a heaviest pairing of a path, from its last pair on.
 fn path_points(words: &[u64]) -> u64
-    requires { ⌜ length (now words) ≤ 8192 ⌝ }
-    ensures { λ r. ⌜ (r ≡ heavy (now (words .entry))) × (r ≤ 17592186044416 * 8192) ⌝ }
+    requires { ⌜ length (now words) ≤ 1024 ⌝ }
+    ensures { λ r. ⌜ (r ≡ heavy (now (words .entry))) × (r ≤ (unit - 1) * length (now (words .entry))) ⌝ }
 {
     let mut best = 0;
     let mut next = 0;
@@ -59,7 +59,7 @@ fn path_points(words: &[u64]) -> u64
 
 // H of the chain that the words are, whichever graph's.
 pub fn chain_points(words: &[u64]) -> ChainPoints
-    requires { ⌜ (3 ≤ length (now words)) × (length (now words) ≤ 8192) ⌝ }
+    requires { ⌜ (3 ≤ length (now words)) × (length (now words) ≤ 1024) ⌝ }
     ensures { λ r. ⌜ ((w : Points) (u : ℕ) (inner : List ℕ) (v : ℕ) → RowOf w u inner v (now (words .entry)) → u ≢ v
         → ChainH w u inner v r) ⌝ }
 {
@@ -74,7 +74,7 @@ pub fn chain_points(words: &[u64]) -> ChainPoints
 
 // H of the ring that the words are, whichever graph's.
 pub fn ring_points(words: &[u64]) -> RingPoints
-    requires { ⌜ (3 ≤ length (now words)) × (length (now words) ≤ 8192) ⌝ }
+    requires { ⌜ (3 ≤ length (now words)) × (length (now words) ≤ 1024) ⌝ }
     ensures { λ r. ⌜ ((w : Points) (u : ℕ) (inner : List ℕ) → RowOf w u inner u (now (words .entry))
         → RingH w u inner r) ⌝ }
 {
@@ -103,7 +103,7 @@ fn stand(before: u64, mark: u64) -> u64
 
 // Marks the pairs of a path that pay, from its last pair on.
 fn mark_paying(words: &[u64], marks: &mut [u64])
-    requires { ⌜ (length (now words) ≤ 8192) × (length (now marks) ≡ length (now words)) ⌝ }
+    requires { ⌜ (length (now words) ≤ 1024) × (length (now marks) ≡ length (now words)) ⌝ }
     ensures { λ _. ⌜ now (marks .exit) ≡ paying (map rowPoints (now (words .entry))) ⌝ }
 {
     let mut best = 0;
@@ -133,7 +133,7 @@ fn let_stand(marks: &mut [u64])
 
 // Marks the best of a path.
 fn mark_path(words: &[u64], marks: &mut [u64])
-    requires { ⌜ (length (now words) ≤ 8192) × (length (now marks) ≡ length (now words)) ⌝ }
+    requires { ⌜ (length (now words) ≤ 1024) × (length (now marks) ≡ length (now words)) ⌝ }
     ensures { λ _. ⌜ now (marks .exit) ≡ pathMarks (now (words .entry)) ⌝ }
 {
     mark_paying(words, marks);
@@ -142,7 +142,7 @@ fn mark_path(words: &[u64], marks: &mut [u64])
 
 // Marks the best of the part of the words from place a to before place e.
 fn mark_part(words: &[u64], a: usize, e: usize, marks: &mut [u64])
-    requires { ⌜ (a ≤ e) × (e ≤ length (now words)) × (length (now words) ≤ 8192)
+    requires { ⌜ (a ≤ e) × (e ≤ length (now words)) × (length (now words) ≤ 1024)
         × (length (now marks) ≡ length (now words)) × Blank (now marks) ⌝ }
     ensures { λ _. ⌜ now (marks .exit) ≡ partMarks a e (now (words .entry)) ⌝ }
 {
@@ -158,7 +158,7 @@ fn aside(less: bool) -> usize
 
 // Marks the best of the chain that the words are, less u, less v or less both, whichever graph's.
 pub fn mark_chain(words: &[u64], less_u: bool, less_v: bool, marks: &mut [u64])
-    requires { ⌜ (3 ≤ length (now words)) × (length (now words) ≤ 8192) × (length (now marks) ≡ length (now words))
+    requires { ⌜ (3 ≤ length (now words)) × (length (now words) ≤ 1024) × (length (now marks) ≡ length (now words))
         × Blank (now marks) ⌝ }
     ensures { λ _. ⌜ ((w : Points) (u : ℕ) (inner : List ℕ) (v : ℕ) → RowOf w u inner v (now (words .entry)) → u ≢ v
         → RowBest w (less «less_u» u ++ less «less_v» v) u inner v (now (marks .exit))) ⌝ }
@@ -170,7 +170,7 @@ pub fn mark_chain(words: &[u64], less_u: bool, less_v: bool, marks: &mut [u64])
 
 // Marks the best of the ring that the words are, or of it less u, whichever graph's.
 pub fn mark_ring(words: &[u64], less_u: bool, marks: &mut [u64])
-    requires { ⌜ (3 ≤ length (now words)) × (length (now words) ≤ 8192) × (length (now marks) ≡ length (now words))
+    requires { ⌜ (3 ≤ length (now words)) × (length (now words) ≤ 1024) × (length (now marks) ≡ length (now words))
         × Blank (now marks) ⌝ }
     ensures { λ _. ⌜ ((w : Points) (u : ℕ) (inner : List ℕ) → RowOf w u inner u (now (words .entry))
         → RowBest w (less «less_u» u) u inner u (now (marks .exit))) ⌝ }

@@ -1,56 +1,119 @@
--- The course of steps. In order: a course by its next step (`OneLess`, `course-on`, `course-refused`, `course-ends`,
--- `course-out`); steps before a course (`behind-append`, `behind-nil`); the step that comes next is found by its name
--- (`next-named`). Assumes nothing.
-use mathlib.Core.Path.{_≡_, refl, sym, ap, subst}
-use mathlib.Core.Logic.{_⊎_, inl, inr}
-use mathlib.Core.List.{List, [], _∷_, _++_, append-nil, append-assoc}
+-- The course of steps. In order: the names of a slip one by one (`names-next`, `names-out`, `name-read`); the course
+-- from step k on, by its next step (`course-on`, `course-refused`, `course-ends`, `course-out`) and by steps that
+-- reduce takes (`course-more`); steps before a course (`behind-append`, `behind-nil`, `behind-none`); the step that
+-- comes next is found by its name (`next-named`). Assumes nothing.
+use mathlib.Core.Path.{_≡_, refl, sym, ap, ap₂, subst, _∙_}
+use mathlib.Core.Bool.{Bool}
+use mathlib.Core.List.{List, [], _∷_, _++_, map, append-nil, append-assoc}
 use mathlib.Core.Option.{Option, some, none}
-use Prim.Native.Nat.{ℕ, zero, suc}
+use Prim.Native.Nat.{ℕ, suc, _+_, _≤_, _<_}
+use native.Mathlib.Omega.{arith}
+use lib.ListN.{length, getD, drop, length-map, drop-of-length-le, List·getD-map}
 use Rattle.matching.specs.Pairs.{Points}
 use Rattle.matching.specs.Graph.{Graph}
 use Rattle.matching.specs.Steps.{Rule, Step, apply, name}
 use Rattle.matching.specs.Find.{stepAt}
-use Rattle.matching.specs.Slip.{reduce}
+use Rattle.matching.specs.Slip.{left, reduce}
+use Rattle.matching.proofs.Tests.{Test, pass, fail, ltT}
 use Rattle.matching.proofs.Find.{step-is, step-name, first-step-is}
+use Rattle.matching.proofs.Reduce.{reduce-append}
 use Rattle.matching.proofs.Behind.{behind}
+use Rattle.cellfile.specs.Fields.{readRecords}
+use Rattle.cellfile.specs.Files.{slip as slipLayout, countOf, asPair, asName}
+use Rattle.cellfile.specs.Reads.{StepRead}
+use Rattle.cellfile.specs.declared.decode.SlipStep.{SlipStep}
+use Rattle.cellfile.proofs.Fields.{length-read-records}
+use Rattle.cellfile.proofs.Walk.{record-in, next}
 use Rattle.running.specs.Course.{course}
-use Rattle.running.specs.Running.{nextStep}
+use Rattle.running.specs.Running.{namesAt, namesFrom, nextStep, fuel, courseFrom}
+
+-- ---- the names of a slip
+
+names-long : (m : ℕ) (slip : List ℕ) → length (namesAt m slip) ≡ m
+names-long m slip =
+    let rs = readRecords (slipLayout .entry) m (drop 4 slip) in
+    length-map (map asPair rs) asName ∙ length-map rs asPair
+    ∙ length-read-records (slipLayout .entry) m (drop 4 slip)
+
+abbrev pub nameAt : ℕ → List ℕ → ℕ → Rule × ℕ
+nameAt m slip k = getD (namesAt m slip) k (asName (0, 0))
+
+pub names-next : (m : ℕ) (slip : List ℕ) (k : ℕ) → k < m
+    → namesFrom m slip k ≡ nameAt m slip k ∷ namesFrom m slip (k + 1)
+names-next m slip k l = next (namesAt m slip) k (asName (0, 0)) _ (omega (arith, names-long m slip)) refl
+
+pub names-out : (m : ℕ) (slip : List ℕ) (k : ℕ) → m ≤ k → namesFrom m slip k ≡ []
+names-out m slip k l = drop-of-length-le (namesAt m slip) {i = k} (omega (arith, names-long m slip))
+
+-- the name at a place, by the step read there
+pub name-read : (m : ℕ) (slip : List ℕ) (k : ℕ) → k < m → k < countOf slip → {t : SlipStep} → StepRead slip k t
+    → asName (t .rule, t .cell) ≡ nameAt m slip k
+name-read m slip k l there r =
+    ap asName (r .is ∙ List·getD-map asPair (rs (countOf slip)) k []
+    ∙ ap asPair (record-in (slipLayout .entry) (drop 4 slip) (countOf slip) k there
+    ∙ sym (record-in (slipLayout .entry) (drop 4 slip) m k l))
+    ∙ sym (List·getD-map asPair (rs m) k []))
+    ∙ sym (List·getD-map asName (map asPair (rs m)) k (0, 0))
+  where
+    rs : ℕ → List (List ℕ)
+    rs i = readRecords (slipLayout .entry) i (drop 4 slip)
 
 -- ---- a course by its next step
 
--- One name less, or without names one step less to go.
-abbrev pub OneLess : List (Rule × ℕ) → ℕ → List (Rule × ℕ) → ℕ → Type 0
-OneLess rs k rs′ k′ = ((r : Rule × ℕ) × (rs ≡ r ∷ rs′) × (k ≡ k′)) ⊎ ((rs ≡ []) × (rs′ ≡ []) × (k ≡ suc k′))
+module _ (n m more : ℕ) (slip : List ℕ) (k : ℕ) (w : Points) where
+  -- The course that has this step next; `end` where there is none.
+  abbrev by-step : Option (List Step) → Option Step → Option (List Step)
+  by-step end o =
+      elim o [ none ↦ end | some s ↦ behind (s ∷ []) (courseFrom n m more slip (k + 1) (apply w s)) ]
 
-pub course-on : (n : ℕ) (w : Points) (rs : List (Rule × ℕ)) (k : ℕ) (rs′ : List (Rule × ℕ)) (k′ : ℕ) (s : Step)
-    → OneLess rs k rs′ k′ → nextStep n w rs ≡ some s → course n w rs k ≡ behind (s ∷ []) (course n (apply w s) rs′ k′)
-course-on n w rs k rs′ k′ s (inl (r, e, q)) h =
-    rw (e, q) (ap go (rw e at h))
-  where
-    go : Option Step → Option (List Step)
-    go o = elim o [ none ↦ none | some s ↦ behind (s ∷ []) (course n (apply w s) rs′ k′) ]
-course-on n w rs k rs′ k′ s (inr (e, f, q)) h = rw (e, f, q) (ap go (rw e at h))
-  where
-    go : Option Step → Option (List Step)
-    go o = some (elim o [ none ↦ [] | some s ↦ s ∷ reduce k′ n (apply w s) ])
+  named : k < m → courseFrom n m more slip k w ≡ by-step none (nextStep n w (namesFrom m slip k))
+  named l =
+      let e = names-next m slip k l in
+      let q : fuel m more k ≡ fuel m more (k + 1) = omega arith in
+      ap₂ (course n w) e q ∙ ap (λ rs. by-step none (nextStep n w rs)) (sym e)
 
-pub course-refused : (n : ℕ) (w : Points) (rs : List (Rule × ℕ)) (k : ℕ) (r : Rule × ℕ) (rs′ : List (Rule × ℕ))
-    → rs ≡ r ∷ rs′ → nextStep n w rs ≡ none → course n w rs k ≡ none
-course-refused n w rs k r rs′ e h = rw e (ap go (rw e at h))
-  where
-    go : Option Step → Option (List Step)
-    go o = elim o [ none ↦ none | some s ↦ behind (s ∷ []) (course n (apply w s) rs′ k) ]
+  reduced : m ≤ k → k < m + more
+      → courseFrom n m more slip k w ≡ by-step (some []) (nextStep n w (namesFrom m slip k))
+  reduced l b =
+      let e = names-out m slip k l in
+      let q : fuel m more k ≡ suc (fuel m more (k + 1)) = omega arith in
+      ap₂ (course n w) e q ∙ go (nextStep n w []) ∙ ap (λ rs. by-step (some []) (nextStep n w rs)) (sym e)
+    where
+      go : (o : Option Step)
+          → some (elim o [ none ↦ [] | some s ↦ s ∷ reduce (fuel m more (k + 1)) n (apply w s) ]) ≡ by-step (some []) o
+      go none = refl
+      go (some s) =
+          ap (λ rs. behind (s ∷ []) (course n (apply w s) rs (fuel m more (k + 1))))
+          (sym (names-out m slip (k + 1) (omega arith)))
 
-pub course-ends : (n : ℕ) (w : Points) (rs : List (Rule × ℕ)) (k : ℕ) → rs ≡ [] → nextStep n w rs ≡ none
-    → course n w rs k ≡ some []
-course-ends n w rs zero e h = rw e
-course-ends n w rs (suc k) e h = rw e (ap go (rw e at h))
-  where
-    go : Option Step → Option (List Step)
-    go o = some (elim o [ none ↦ [] | some s ↦ s ∷ reduce k n (apply w s) ])
+  pub course-on : k < m + more → (s : Step) → nextStep n w (namesFrom m slip k) ≡ some s
+      → courseFrom n m more slip k w ≡ behind (s ∷ []) (courseFrom n m more slip (k + 1) (apply w s))
+  course-on b s h = go (ltT k m)
+    where
+      go : {t : Bool} → Test (k < m) (m ≤ k) t
+          → courseFrom n m more slip k w ≡ behind (s ∷ []) (courseFrom n m more slip (k + 1) (apply w s))
+      go (pass l) = named l ∙ ap (by-step none) h
+      go (fail l) = reduced l b ∙ ap (by-step (some [])) h
 
-pub course-out : (n : ℕ) (w : Points) (rs : List (Rule × ℕ)) (k : ℕ) → rs ≡ [] → k ≡ 0 → course n w rs k ≡ some []
-course-out n w rs k e z = rw (e, z)
+  pub course-refused : k < m → nextStep n w (namesFrom m slip k) ≡ none → courseFrom n m more slip k w ≡ none
+  course-refused l h = named l ∙ ap (by-step none) h
+
+  pub course-ends : m ≤ k → k < m + more → nextStep n w (namesFrom m slip k) ≡ none
+      → courseFrom n m more slip k w ≡ some []
+  course-ends l b h = reduced l b ∙ ap (by-step (some [])) h
+
+  pub course-out : m + more ≤ k → courseFrom n m more slip k w ≡ some []
+  course-out l =
+      let q : fuel m more k ≡ 0 = omega arith in
+      ap₂ (course n w) (names-out m slip k (omega arith)) q
+
+  pub course-more : m ≤ k → (ss : List Step) → k + length ss ≤ m + more → reduce (length ss) n w ≡ ss
+      → courseFrom n m more slip k w ≡ behind ss (courseFrom n m more slip (k + length ss) (left w ss))
+  course-more l ss b h =
+      let q : fuel m more k ≡ length ss + fuel m more (k + length ss) = omega arith in
+      ap₂ (course n w) (names-out m slip k l) q ∙ ap some (reduce-append ss (fuel m more (k + length ss)) n w h)
+      ∙ ap (λ rs. behind ss (course n (left w ss) rs (fuel m more (k + length ss))))
+      (sym (names-out m slip (k + length ss) (omega arith)))
 
 -- ---- steps before a course
 

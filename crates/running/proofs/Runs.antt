@@ -1,25 +1,24 @@
--- The loop of replay and reduce. In order: the names of a slip one by one (`names-here`, `names-out`); the step that
--- comes next, as it is found (`next-scanned`, `next-first`) and named (`name-leaf` and so on); what holds before
--- step k (`Coursing`, `run-start`), what taking it asks (`run-there`), that no leaf and no ring is below the bounds
--- after it (`run-quiet`, `run-rings`), that the rest holds again (`run-on`), and how the loop ends (`run-refused`,
--- `run-ends`, `run-out`). Assumes nothing.
+-- The loop of replay and reduce. In order: the step that comes next, as it is found at one cell (`one-cell`); a step's
+-- name is the word of a slip (`name-word`); where the loop starts (`run-start`); where it stands, the step that comes
+-- next is found (`next-scanned`, `next-first`), the loop ends (`run-out`, `run-refused`, `run-ends`), or steps were
+-- taken (`Went`) that leave room (`run-room`) and from which it goes on (`run-on`); a step that was found is there to
+-- be taken (`step-there`), its name and what it carries fit (`step-named`, `step-carried`), and the loop goes on from
+-- it (`after-step`). Assumes nothing.
 use mathlib.Core.Path.{_≡_, refl, sym, ap, ap₂, subst, _∙_}
 use mathlib.Core.Logic.{inl, inr}
-use mathlib.Core.Bool.{Bool}
-use mathlib.Core.List.{List, [], _∷_, _++_, map, append-nil}
+use mathlib.Core.List.{List, [], _∷_, _++_, map, map-append, append-nil}
 use mathlib.Core.Option.{Option, some, none}
 use Prim.Native.Nat.{ℕ, suc, _+_, _*_, _-_, _≤_, _<_}
 use native.Mathlib.Omega.{arith}
 use native.Mathlib.Numerals.{add-one}
-use lib.ListN.{length, getD, set, take, drop, length-drop, length-append, length-set}
+use lib.ListN.{length, set, take, drop, length-drop, length-append}
 use lib.Seq.{drop-set-add, take-suc-set, take-set-le}
 use Rattle.matching.specs.Pairs.{Points}
 use Rattle.matching.specs.Graph.{Graph}
-use Rattle.matching.specs.Steps.{Rule, by-leaf, by-ring, by-chain, Step, leaf, ring, chain, apply, carry, name}
+use Rattle.matching.specs.Steps.{Rule, by-ring, Step, leaf, ring, chain, name}
 use Rattle.matching.specs.Shapes.{IsStep, rank, NoLater}
 use Rattle.matching.specs.Find.{stepAt, firstStep, search}
 use Rattle.matching.specs.Slip.{replay, left, carried}
-use Rattle.matching.proofs.Tests.{Test, pass, fail, ltT}
 use Rattle.matching.proofs.Fits.{Stands}
 use Rattle.matching.proofs.Find.{step-is, step-below, first-step-first}
 use Rattle.matching.proofs.More.{graph-to, is-more, is-less, step-more}
@@ -27,40 +26,31 @@ use Rattle.matching.proofs.Tally.{cells-most}
 use Rattle.matching.proofs.Reduce.{replay-fits, slip-count}
 use Rattle.matching.proofs.Demand.{slip-graph}
 use Rattle.matching.proofs.Behind.{behind, left-append, carried-append, replay-split}
-use Rattle.cellfile.specs.Fields.{packed, readRecord}
-use Rattle.cellfile.specs.Files.{slip as slipLayout, asPair, ruleOf, asName, numberOf}
+use Rattle.buffers.specs.Map.{atNames, trailRoom}
+use Rattle.cellfile.specs.Fields.{packed}
+use Rattle.cellfile.specs.Files.{ruleOf}
 use Rattle.cellfile.specs.Answers.{Answer}
 use Rattle.cellfile.specs.Reads.{StepRead}
+use Rattle.cellfile.specs.Words.{nameWord, pointsRoom}
 use Rattle.cellfile.specs.declared.decode.SlipStep.{SlipStep}
-use Rattle.cellfile.proofs.Walk.{from-start, from-next, from-end}
-use Rattle.slots.specs.Slots.{graphOf}
+use Rattle.slots.specs.Slots.{Holds, graphOf}
 use Rattle.slots.proofs.Holding.{holds-room, holds-aside}
-use Rattle.finding.specs.Finding.{toTell, Finds, stepFrom, stepOf, Quiet, RingQuiet}
-use Rattle.bounds.specs.Bounds.{Quieted, LowestRing, RingQuieted}
-use Rattle.trail.specs.Trail.{stepWords, trail, Small}
-use Rattle.taking.specs.Applying.{StepThere, StepTaken}
+use Rattle.finding.specs.Finding.{told, toTell, Finds, stepFrom, stepOf, Quiet, RingQuiet}
 use Rattle.finding.specs.declared.Found.{Found}
-use Rattle.taking.specs.declared.Taken.{Taken}
+use Rattle.bounds.specs.Bounds.{Quieted, LowestRing, RingQuieted, RingsLeft}
+use Rattle.trail.specs.Trail.{stepWords, trail}
+use Rattle.trail.proofs.Trail.{trail-append, trail-room}
 use Rattle.trail.proofs.TakenRow.{drop-same}
+use Rattle.taking.specs.Applying.{StepThere, StepTaken}
+use Rattle.taking.specs.declared.Taken.{Taken}
 use Rattle.taking.proofs.Applied.{found-step}
 use Rattle.running.specs.Course.{course}
-use Rattle.running.specs.Running.{namesAt, namesFrom, nextStep, Names, RunThere, After, RunDone}
-use Rattle.cellfile.specs.Words.{nameWord}
+use Rattle.running.specs.Running.{namesAt, namesFrom, nextStep, fuel, courseFrom, Names, RunThere, RunDone}
+use Rattle.running.specs.Running.{Coursing, FoundThere}
 use Rattle.running.specs.declared.Name.{Name}
-use Rattle.running.proofs.Course.{OneLess, course-on, course-refused, course-ends, course-out, behind-append}
-use Rattle.running.proofs.Course.{behind-nil, behind-none, next-named}
-use Rattle.trail.proofs.Trail.{trail-append, trail-room}
-
--- ---- the names of a slip
-
-pub names-here : (m : ℕ) (slip : List ℕ) (k : ℕ) → k < m → {t : SlipStep} → StepRead (drop (4 + 2 * k) slip) t
-    → namesFrom m slip k ≡ (ruleOf (t .rule), t .cell) ∷ namesFrom m slip (k + 1)
-names-here m slip k l {t} r =
-    ap (λ rs. map asName (map asPair rs)) (from-next (slipLayout .entry) slip 4 m k l)
-    ∙ ap (λ (x : Rule × ℕ). x ∷ namesFrom m slip (k + 1)) (ap₂ (λ a b. (ruleOf a, b)) (sym (r .rule)) (sym (r .cell)))
-
-pub names-out : (m : ℕ) (slip : List ℕ) (k : ℕ) → m ≤ k → namesFrom m slip k ≡ []
-names-out m slip k l = ap (λ rs. map asName (map asPair rs)) (from-end (slipLayout .entry) slip 4 m k l)
+use Rattle.running.specs.declared.Place.{Place}
+use Rattle.running.proofs.Course.{names-next, names-out, name-read, course-on, course-refused, course-ends}
+use Rattle.running.proofs.Course.{course-out, behind-append, behind-nil, behind-none, next-named}
 
 -- ---- the step that comes next
 
@@ -70,71 +60,28 @@ one-cell n w r c g le =
     let z : c + 0 ≡ c = omega arith in
     ap (λ k. search (λ i. stepAt 1024 w r (c + i)) k) q ∙ ap (stepAt 1024 w r) z ∙ step-more g 1024 le r c
 
-module _ {e : ℕ} {w1 : List ℕ} {n : ℕ} (g : Graph n (graphOf e w1)) (le : n ≤ 1024) (m : ℕ) (slip : List ℕ) (k : ℕ)
-    {x : Found} where
-  pub next-scanned : k < m → {t : SlipStep} → StepRead (drop (4 + 2 * k) slip) t
-      → Finds e w1 (stepFrom (graphOf e w1) (ruleOf (t .rule)) (t .cell) (t .cell + 1)) x
-      → Finds e w1 (nextStep n (graphOf e w1) (namesFrom m slip k)) x
-  next-scanned l {t} r f =
-      subst (λ rs. Finds e w1 (nextStep n (graphOf e w1) rs) x) (sym (names-here m slip k l r))
-      (subst (λ (o : Option Step). Finds e w1 o x)
-      (one-cell n (graphOf e w1) (ruleOf (t .rule)) (t .cell) g le) f)
+-- a name fits a word of a slip, and is that word
+name-word : (s : Step) {r : Name} → Names (toTell (some s)) r → name s .1 < 1024
+    → (r .rule ≤ 3) × (r .cell < 1024) × (r .rule * 1024 + r .cell ≡ nameWord s)
+unfolding packed
+name-word (leaf u v) q l = (omega arith, omega arith, omega arith)
+name-word (ring u z inner) q l = (omega arith, omega arith, omega arith)
+name-word (chain u v z inner) q l = (omega arith, omega arith, omega arith)
 
-  pub next-first : m ≤ k → Finds e w1 (firstStep n (graphOf e w1)) x
-      → Finds e w1 (nextStep n (graphOf e w1) (namesFrom m slip k)) x
-  next-first l f = subst (λ rs. Finds e w1 (nextStep n (graphOf e w1) rs) x) (sym (names-out m slip k l)) f
+-- ---- what holds between the steps
 
--- ---- names of steps
-
-second : Answer → ℕ → ℕ
-second a i = getD (a .1) i 0
-
-pub name-leaf : {v u : ℕ} {x : Name} (s : Step) → (1, v ∷ u ∷ []) ≡ toTell (some s) → x .rule ≡ 1 → x .cell ≡ v
-    → Names s x
-unfolding second
-name-leaf (leaf u′ v′) q r c = record { rule = r; cell = c ∙ ap (λ (a : Answer). second a 0) q }
-name-leaf (ring u′ z inner) q r c = absurd (omega (arith, ap (λ (a : Answer). a .0) q))
-name-leaf (chain u′ v′ z inner) q r c = absurd (omega (arith, ap (λ (a : Answer). a .0) q))
-
-pub name-ring : {u z : ℕ} {x : Name} (s : Step) → (2, u ∷ z ∷ []) ≡ toTell (some s) → x .rule ≡ 2 → x .cell ≡ z
-    → Names s x
-unfolding second
-name-ring (leaf u′ v′) q r c = absurd (omega (arith, ap (λ (a : Answer). a .0) q))
-name-ring (ring u′ z′ inner) q r c = record { rule = r; cell = c ∙ ap (λ (a : Answer). second a 1) q }
-name-ring (chain u′ v′ z′ inner) q r c = absurd (omega (arith, ap (λ (a : Answer). a .0) q))
-
-pub name-chain : {u v z : ℕ} {x : Name} (s : Step) → (3, u ∷ v ∷ z ∷ []) ≡ toTell (some s) → x .rule ≡ 3
-    → x .cell ≡ z → Names s x
-unfolding second
-name-chain (leaf u′ v′) q r c = absurd (omega (arith, ap (λ (a : Answer). a .0) q))
-name-chain (ring u′ z′ inner) q r c = absurd (omega (arith, ap (λ (a : Answer). a .0) q))
-name-chain (chain u′ v′ z′ inner) q r c = record { rule = r; cell = c ∙ ap (λ (a : Answer). second a 2) q }
-
--- a step is told as one
-pub name-no : {x : Name} (s : Step) → (0, []) ≡ toTell (some s) → Names s x
-name-no (leaf u v) q = absurd (omega (arith, ap (λ (a : Answer). a .0) q))
-name-no (ring u z inner) q = absurd (omega (arith, ap (λ (a : Answer). a .0) q))
-name-no (chain u v z inner) q = absurd (omega (arith, ap (λ (a : Answer). a .0) q))
-
--- ---- what holds before step k
-
--- The steps that are still to be taken as reduce takes them.
-abbrev pub fuel : ℕ → ℕ → ℕ → ℕ
-fuel m more k = m + more - k - (m - k)
-
--- Allowed steps were taken, and the rest of the course goes on from what they left.
-pub record Coursing (n : ℕ) (w : Points) (m more : ℕ) (slip : List ℕ) (slots on-trail points k : ℕ)
-    (w1 w2 : List ℕ) : Type 0 where
-  pub taken : List Step
-  pub allowed : replay n w (map name taken) ≡ some taken
-  pub after : After w taken slots on-trail points k w1 w2
-  pub rest : course n w (namesAt m slip) more
-      ≡ behind taken (course n (left w taken) (namesFrom m slip k) (fuel m more k))
-  pub top : k ≤ m + more
-
-pub run-start : {n e m : ℕ} {slip w1 w2 : List ℕ} (more : ℕ) → RunThere n e m slip w1 w2
-    → Coursing n (graphOf e w1) m more slip e 0 0 0 w1 w2
-run-start {n} {e} {m} {slip} {w1} {w2} more h = record {
+pub run-start : {n e m : ℕ} {slip w1 w2 : List ℕ} {more : ℕ} → RunThere n e m slip w1 w2 → more ≤ 1024
+    → Coursing n (graphOf e w1) m more slip
+    (record { slots = e; trail = 0; carried = 0; steps = 0; low = 0; rings = 0 }) w1 w2
+run-start {n} {e} {m} {slip} {w1} {w2} {more} h few = record {
+  asked = record {
+    cells = h .cells;
+    graph = h .graph;
+    small = h .small;
+    count = h .count;
+    named = h .named;
+    few = few;
+  };
   taken = [];
   allowed = refl;
   after = record {
@@ -149,249 +96,262 @@ run-start {n} {e} {m} {slip} {w1} {w2} more h = record {
   rest =
       let q : more ≡ fuel m more 0 = omega arith in
       sym (behind-none (course n (graphOf e w1) (namesAt m slip) more))
-      ∙ ap (behind []) (ap₂ (course n (graphOf e w1))
-      (ap (λ rs. map asName (map asPair rs)) (from-start (slipLayout .entry) slip 4 m)) q);
+      ∙ ap (behind []) (ap (course n (graphOf e w1) (namesAt m slip)) q);
   top = omega arith;
+  quiet = λ c l. absurd (omega arith);
+  rings = λ c l. absurd (omega arith);
 }
 
--- what is left at step k
-names-next : (m : ℕ) (slip : List ℕ) (k : ℕ) → k < m
-    → (r : Rule × ℕ) × (namesFrom m slip k ≡ r ∷ namesFrom m slip (k + 1))
-names-next m slip k l = (
-  asName (asPair (readRecord (slipLayout .entry) (drop (4 + 2 * k) slip))),
-  ap (λ rs. map asName (map asPair rs)) (from-next (slipLayout .entry) slip 4 m k l),
-)
+-- The steps ss were taken on the points p where the loop stood at `at`; it stands at r then.
+pub record Went (p : Points) (at : Place) (w2 : List ℕ) (ss : List Step) (r : Place) (w1′ w2′ : List ℕ) : Type 0 where
+  pub holds : Holds (r .slots) w1′ w2′
+  pub graph : graphOf (r .slots) w1′ ≡ left p ss
+  pub carries : r .carried ≡ at .carried + carried p ss
+  pub words : r .trail ≡ at .trail + length (trail p ss)
+  pub trail : take (r .trail) w2′ ≡ take (at .trail) w2 ++ trail p ss
+  pub count : r .steps ≡ at .steps + length ss
+  pub names : take (r .steps) (drop atNames w2′) ≡ take (at .steps) (drop atNames w2) ++ map nameWord ss
 
-ahead : (m more : ℕ) (slip : List ℕ) (k : ℕ) → k < m + more
-    → OneLess (namesFrom m slip k) (fuel m more k) (namesFrom m slip (k + 1)) (fuel m more (k + 1))
-ahead m more slip k l = go (ltT k m)
-  where
-    go : {t : Bool} → Test (k < m) (m ≤ k) t
-        → OneLess (namesFrom m slip k) (fuel m more k) (namesFrom m slip (k + 1)) (fuel m more (k + 1))
-    go (pass h) = (let x = names-next m slip k h in inl (x .0, x .1, omega arith))
-    go (fail h) = inr (names-out m slip k h, names-out m slip (k + 1) (omega arith), omega arith)
+module _ {n : ℕ} {w : Points} {m more : ℕ} {slip : List ℕ} {at : Place} {w1 w2 : List ℕ}
+    (h : Coursing n w m more slip at w1 w2) where
+  abbrev pub here : Points
+  here = graphOf (at .slots) w1
 
-map-snoc : (f : Step → ℕ) (ss : List Step) (s : Step) → map f (ss ++ s ∷ []) ≡ map f ss ++ f s ∷ []
-map-snoc f [] s = refl
-map-snoc f (x ∷ xs) s = ap (λ ys. f x ∷ ys) (map-snoc f xs s)
+  taken-stands : Stands w (h .taken)
+  taken-stands = replay-fits (h .asked .graph) (map name (h .taken)) (h .taken) (h .allowed) .0
 
-names-snoc : (ss : List Step) (s : Step) → map name (ss ++ s ∷ []) ≡ map name ss ++ name s ∷ []
-names-snoc [] s = refl
-names-snoc (x ∷ xs) s = ap (λ ys. name x ∷ ys) (names-snoc xs s)
+  pub run-graph : Graph n here
+  run-graph = subst (Graph n) (sym (h .after .graph)) (slip-graph (h .asked .graph) (h .taken) taken-stands)
 
--- a name as a word of a slip
-pub name-word : {rule cell : ℕ} (s : Step) → rule ≡ numberOf (name s .0) → cell ≡ name s .1
-    → rule * 1024 + cell ≡ nameWord s
-unfolding packed
-name-word s q r = rw (q, r) (omega arith)
+  -- the step that comes next is found
+  pub next-scanned : at .steps < m → {t : SlipStep} → StepRead slip (at .steps) t → {x : Found}
+      → Finds (at .slots) w1 (stepFrom here (ruleOf (t .rule)) (t .cell) (t .cell + 1)) x
+      → Finds (at .slots) w1 (nextStep n here (namesFrom m slip (at .steps))) x
+  next-scanned l {t} r {x} f =
+      subst (λ (o : Option Step). Finds (at .slots) w1 o x)
+      (one-cell n here (ruleOf (t .rule)) (t .cell) run-graph (h .asked .cells)
+      ∙ ap (λ (x : Rule × ℕ). stepAt n here (x .0) (x .1))
+      (name-read m slip (at .steps) l (h .asked .named (at .steps) l .below) r)
+      ∙ ap (nextStep n here) (sym (names-next m slip (at .steps) l))) f
 
-module _ {n : ℕ} {w : Points} (g : Graph n w) (le : n ≤ 1024) (small : Small n w) {m more : ℕ} {slip : List ℕ}
-    {slots on-trail points k : ℕ} {w1 w2 : List ℕ} (h : Coursing n w m more slip slots on-trail points k w1 w2) where
-  abbrev now-graph : Points
-  now-graph = left w (h .taken)
-
-  graph-left : Graph n now-graph
-  graph-left = slip-graph g (h .taken) (replay-fits g (map name (h .taken)) (h .taken) (h .allowed) .0)
-
-  pub run-graph : Graph n (graphOf slots w1)
-  run-graph = subst (Graph n) (sym (h .after .graph)) graph-left
+  pub next-first : m ≤ at .steps → {x : Found} → Finds (at .slots) w1 (firstStep n here) x
+      → Finds (at .slots) w1 (nextStep n here (namesFrom m slip (at .steps))) x
+  next-first l {x} f =
+      subst (λ rs. Finds (at .slots) w1 (nextStep n here rs) x) (sym (names-out m slip (at .steps) l)) f
 
   -- the loop ends
-  pub run-out : m + more ≤ k → RunDone n w (namesAt m slip) more slots on-trail points k w1 w2
-  run-out l = record {
+  run-done : courseFrom n m more slip (at .steps) here ≡ some []
+      → RunDone n w (namesAt m slip) more (at .slots) (at .trail) (at .carried) (at .steps) w1 w2
+  run-done q = record {
     taken = h .taken;
-    course = h .rest
-        ∙ ap (behind (h .taken)) (course-out n now-graph (namesFrom m slip k) (fuel m more k)
-        (names-out m slip k (omega arith)) (omega arith))
-        ∙ behind-nil (h .taken);
+    course = h .rest ∙ ap (behind (h .taken)) q ∙ behind-nil (h .taken);
     after = h .after;
   }
 
-  module _ (none-next : nextStep n (graphOf slots w1) (namesFrom m slip k) ≡ none) where
-    none-left : nextStep n now-graph (namesFrom m slip k) ≡ none
-    none-left = rw (h .after .graph) at none-next
+  pub run-out : m + more ≤ at .steps
+      → RunDone n w (namesAt m slip) more (at .slots) (at .trail) (at .carried) (at .steps) w1 w2
+  run-out l = run-done (course-out n m more slip (at .steps) here l)
 
-    pub run-refused : k < m → course n w (namesAt m slip) more ≡ none
-    run-refused l =
-        let x = names-next m slip k l in
-        h .rest
-        ∙ ap (behind (h .taken)) (course-refused n now-graph (namesFrom m slip k) (fuel m more k) (x .0)
-        (namesFrom m slip (k + 1)) (x .1) none-left)
+  module _ (no : nextStep n here (namesFrom m slip (at .steps)) ≡ none) where
+    pub run-refused : at .steps < m → course n w (namesAt m slip) more ≡ none
+    run-refused l = h .rest ∙ ap (behind (h .taken)) (course-refused n m more slip (at .steps) here l no)
 
-    pub run-ends : m ≤ k → RunDone n w (namesAt m slip) more slots on-trail points k w1 w2
-    run-ends l = record {
-      taken = h .taken;
-      course = h .rest
-          ∙ ap (behind (h .taken)) (course-ends n now-graph (namesFrom m slip k) (fuel m more k)
-          (names-out m slip k l) none-left)
-          ∙ behind-nil (h .taken);
-      after = h .after;
-    }
+    pub run-ends : m ≤ at .steps → at .steps < m + more
+        → RunDone n w (namesAt m slip) more (at .slots) (at .trail) (at .carried) (at .steps) w1 w2
+    run-ends l b = run-done (course-ends n m more slip (at .steps) here l b no)
 
-  module _ (s : Step) (next : nextStep n (graphOf slots w1) (namesFrom m slip k) ≡ some s) where
-    abbrev longer : List Step
-    longer = h .taken ++ s ∷ []
+  -- steps behind those that were taken, allowed on what those left
+  module _ (ss : List Step) (ok : replay n here (map name ss) ≡ some ss) where
+    abbrev all : List Step
+    all = h .taken ++ ss
 
-    next-left : nextStep n now-graph (namesFrom m slip k) ≡ some s
-    next-left = rw (h .after .graph) at next
+    all-allowed : replay n w (map name all) ≡ some all
+    all-allowed =
+        ap (replay n w) (map-append name (h .taken) ss)
+        ∙ replay-split n w (map name (h .taken)) (map name ss) (h .taken) (h .allowed)
+        ∙ ap (behind (h .taken)) (ap (λ (p : Points). replay n p (map name ss)) (sym (h .after .graph)) ∙ ok)
 
-    named-left : stepAt n now-graph (name s .0) (name s .1) ≡ some s
-    named-left = next-named graph-left (namesFrom m slip k) s next-left
+    all-stands : Stands w all
+    all-stands = replay-fits (h .asked .graph) (map name all) all all-allowed .0
 
-    allowed-longer : replay n w (map name longer) ≡ some longer
-    allowed-longer =
-        ap (replay n w) (names-snoc (h .taken) s)
-        ∙ replay-split n w (map name (h .taken)) (name s ∷ []) (h .taken) (h .allowed)
-        ∙ ap (behind (h .taken)) (ap one named-left)
-      where
-        one : Option Step → Option (List Step)
-        one o = elim o [ none ↦ none | some t ↦ some (t ∷ []) ]
+    all-trail : length (trail w all) ≡ at .trail + length (trail here ss)
+    all-trail =
+        ap length (trail-append w (h .taken) ss) ∙ length-append (trail w (h .taken)) (trail (left w (h .taken)) ss)
+        ∙ ap₂ (λ t (p : Points). t + length (trail p ss)) (sym (h .after .trail-length)) (sym (h .after .graph))
 
-    stands-longer : Stands w longer
-    stands-longer = replay-fits g (map name longer) longer allowed-longer .0
+    all-carried : carried w all ≡ at .carried + carried here ss
+    all-carried =
+        carried-append w (h .taken) ss
+        ∙ ap₂ (λ c (p : Points). c + carried p ss) (sym (h .after .carries)) (sym (h .after .graph))
 
-    trail-longer : trail w longer ≡ trail w (h .taken) ++ stepWords now-graph s
-    trail-longer =
-        trail-append w (h .taken) (s ∷ [])
-        ∙ ap (λ ws. trail w (h .taken) ++ ws) (append-nil (stepWords now-graph s))
+    -- there is room for them, and what is carried fits
+    pub run-room : (at .steps + length ss ≤ 1024) × (at .trail + length (trail here ss) ≤ trailRoom)
+        × (at .carried + carried here ss < pointsRoom)
+    run-room =
+        let le = h .asked .cells in (
+          omega (
+            arith,
+            h .after .count,
+            length-append (h .taken) ss,
+            slip-count (h .asked .graph) all all-stands,
+            cells-most n w,
+          ),
+          omega (arith, all-trail, trail-room (h .asked .graph) all all-stands, cells-most n w),
+          omega (arith, all-carried, h .asked .small (map name all) all all-allowed 0 0),
+        )
 
-    carried-longer : carried w longer ≡ points + carry now-graph s
-    carried-longer = omega (arith, carried-append w (h .taken) (s ∷ []), h .after .carries)
-
-    length-longer : length longer ≡ k + 1
-    length-longer = omega (arith, length-append (h .taken) (s ∷ []), h .after .count)
-
-    -- step k is below 1,024, and what it carries fits
-    pub run-few : k < 1024
-    run-few = omega (arith, length-longer, slip-count g longer stands-longer, cells-most n w, le)
-
-    pub run-carries : points + carry (graphOf slots w1) s < 17592186044416
-    run-carries =
-        rw (h .after .graph) (omega (arith, carried-longer, small (map name longer) longer allowed-longer 0 0))
-
-    run-room : length (trail w longer) ≤ 4096
-    run-room = omega (arith, trail-room g longer stands-longer, cells-most n w, le)
-
-    words-longer : length (trail w longer) ≡ on-trail + length (stepWords (graphOf slots w1) s)
-    words-longer =
-        rw (h .after .graph)
-        (ap length trail-longer ∙ length-append (trail w (h .taken)) (stepWords now-graph s)
-        ∙ ap (λ x. x + length (stepWords now-graph s)) (sym (h .after .trail-length)))
-
-    pub run-is : IsStep 1024 (graphOf slots w1) (name s .0) (name s .1) s
-    run-is =
-        is-more run-graph 1024 le (name s .0) (name s .1) s
-        (step-is run-graph (name s .0) (name s .1) s (next-named run-graph (namesFrom m slip k) s next))
-
-    -- its name fits a word of a slip
-    pub run-name : {rule cell : ℕ} → rule ≡ numberOf (name s .0) → cell ≡ name s .1 → (rule ≤ 3) × (cell < 1024)
-    run-name q r = (
-      omega (arith, q, few (name s .0)),
-      omega (
-        arith,
-        r,
-        le,
-        step-below graph-left (name s .0) (name s .1) s
-            (step-is graph-left (name s .0) (name s .1) s named-left),
-      ),
-    )
-      where
-        few : (r : Rule) → numberOf r ≤ 3
-        few by-leaf = omega arith
-        few by-ring = omega arith
-        few by-chain = omega arith
-
-    pub run-there : {x : Found} → Finds slots w1 (nextStep n (graphOf slots w1) (namesFrom m slip k)) x
-        → StepThere slots w1 w2 on-trail x
-    run-there {x} f = record {
-      rule = name s .0;
-      cell = name s .1;
-      step = s;
-      holds = h .after .holds;
-      is = run-is;
-      finds = subst (λ (o : Option Step). Finds slots w1 o x) next f;
-      room = omega (arith, run-room, words-longer);
-      fits = λ a b. (let q = ap (λ (p : Points). p a b) (h .after .graph) in
-          omega (arith, q, small (map name (h .taken)) (h .taken) (h .allowed) a b));
-    }
-
-    pub run-step : {x : Found} → Finds slots w1 (nextStep n (graphOf slots w1) (namesFrom m slip k)) x
-        → stepOf (graphOf slots w1) x ≡ some s
-    run-step {x} f =
-        found-step (h .after .holds) (name s .0) (name s .1) run-is
-        (subst (λ (o : Option Step). Finds slots w1 o x) next f)
-
-    module _ {w1′ w2′ : List ℕ} {t : Taken} (d : StepTaken slots w1 w2 w1′ w2′ on-trail s t)
-        (same : length w2′ ≡ length w2) {rule cell : ℕ} (q : rule ≡ numberOf (name s .0)) (r : cell ≡ name s .1)
-        (l : k < m + more) where
-      abbrev w2″ : List ℕ
-      w2″ = set w2′ (6144 + k) (rule * 1024 + cell)
-
-      pub run-length : length w2″ ≡ length w2
-      run-length = length-set w2′ (6144 + k) (rule * 1024 + cell) ∙ same
-
-      now-after : After w longer (t .slots) (t .trail) (points + t .carried) (k + 1) w1′ w2″
-      now-after = record {
-        holds = holds-aside (d .holds) (6144 + k) (rule * 1024 + cell) (inr (omega arith));
-        graph = d .graph ∙ ap (λ (p : Points). apply p s) (h .after .graph) ∙ sym (left-append w (h .taken) (s ∷ []));
-        carries =
-            let c = ap (λ (p : Points). carry p s) (h .after .graph) in
-            omega (arith, carried-longer, d .carried, c);
-        trail-length = d .words ∙ sym words-longer;
+    pub run-on : {r : Place} {w1′ w2′ : List ℕ} → Went here at w2 ss r w1′ w2′
+        → courseFrom n m more slip (at .steps) here ≡ behind ss (courseFrom n m more slip (r .steps) (left here ss))
+        → r .steps ≤ m + more → Quiet (r .low) (graphOf (r .slots) w1′) → RingQuiet (r .rings) (graphOf (r .slots) w1′)
+        → Coursing n w m more slip r w1′ w2′
+    run-on {r} d q top quiet rings = record {
+      asked = h .asked;
+      taken = all;
+      allowed = all-allowed;
+      after = record {
+        holds = d .holds;
+        graph = d .graph ∙ ap (λ (p : Points). left p ss) (h .after .graph) ∙ sym (left-append w (h .taken) ss);
+        carries = d .carries ∙ sym all-carried;
+        trail-length = d .words ∙ sym all-trail;
         trail =
-            take-set-le (t .trail) w2′ (6144 + k) (rule * 1024 + cell)
-            (omega (arith, d .words, words-longer, run-room))
-            ∙ d .trail
-            ∙ ap₂ _++_ (h .after .trail) (ap (λ (p : Points). stepWords p s) (h .after .graph))
-            ∙ sym trail-longer;
-        count = sym length-longer;
+            d .trail ∙ ap₂ (λ ws (p : Points). ws ++ trail p ss) (h .after .trail) (h .after .graph)
+            ∙ sym (trail-append w (h .taken) ss);
+        count = omega (arith, d .count, h .after .count, length-append (h .taken) ss);
         names =
-            rw (add-one)
-            (ap (take (suc k)) (drop-set-add 6144 w2′ k (rule * 1024 + cell))
-            ∙ take-suc-set (drop 6144 w2′) k (rule * 1024 + cell)
-            (omega (arith, length-drop 6144 w2′, run-few, holds-room (d .holds)))
-            ∙ ap₂ (λ xs x. xs ++ x ∷ [])
-            (ap (take k) (drop-same w2 w2′ 6144 same (d .aside)) ∙ h .after .names) (name-word s q r)
-            ∙ sym (map-snoc nameWord (h .taken) s));
-      }
+            d .names ∙ ap (λ ws. ws ++ map nameWord ss) (h .after .names) ∙ sym (map-append nameWord (h .taken) ss);
+      };
+      rest =
+          h .rest ∙ ap (behind (h .taken)) q
+          ∙ behind-append (h .taken) ss (courseFrom n m more slip (r .steps) (left here ss))
+          ∙ ap (λ (p : Points). behind all (courseFrom n m more slip (r .steps) p)) (sym (d .graph));
+      top = top;
+      quiet = quiet;
+      rings = rings;
+    }
 
-      -- no leaf is below r
-      pub run-quiet : {x : Found} → Finds slots w1 (nextStep n (graphOf slots w1) (namesFrom m slip k)) x → {low r : ℕ}
-          → Quieted (graphOf slots w1) (x .step) low r → Quiet low (graphOf slots w1) → Quiet r (graphOf (t .slots) w1′)
-      run-quiet f {low} {r} z low-quiet =
-          subst (Quiet r) (sym (d .graph))
-          (z s (f .step ∙ ap toTell next) (name s) run-is (graph-to run-graph 1024 le) low-quiet)
+-- a bound for rings that stays
+pub rings-stay : {m k steps rings b : ℕ} {p : Points} → RingsLeft m k steps rings b
+    → (m < k → steps ≡ 0 → RingQuiet rings p) → RingQuiet b p
+rings-stay (inl z) q = λ c l. absurd (omega arith)
+rings-stay (inr (l, z, e)) q = rw e (q l z)
 
-      -- no ring step is named by a cell below r, where reduce takes the step
-      pub run-rings : {x : Found} → Finds slots w1 (nextStep n (graphOf slots w1) (namesFrom m slip k)) x → m ≤ k
-          → {low r : ℕ} → RingQuieted (graphOf slots w1) (x .step) low r → RingQuiet low (graphOf slots w1)
-          → RingQuiet r (graphOf (t .slots) w1′)
-      run-rings f l′ {low} {r} z low-quiet =
-          subst (RingQuiet r) (sym (d .graph))
-          (z s (f .step ∙ ap toTell next) (name s) run-is (graph-to run-graph 1024 le) lowest low-quiet)
-        where
-          first : firstStep n (graphOf slots w1) ≡ some s
-          first = subst (λ rs. nextStep n (graphOf slots w1) rs ≡ some s) (names-out m slip k l′) next
+-- ---- the step that was found
 
-          lowest : LowestRing (graphOf slots w1) s
-          lowest e c y p = go (first-step-first run-graph s first by-ring c y (is-less run-graph 1024 le by-ring c y p))
-            where
-              go : NoLater (name s) (by-ring, c) → name s .1 ≤ c
-              go (inl b) = absurd (omega (arith, b, ap rank e))
-              go (inr b) = b .1
+-- where the loop stands after it
+abbrev pub stepped : Place → Taken → ℕ → ℕ → ℕ → Place
+stepped at t steps low rings = record {
+  slots = t .slots;
+  trail = t .trail;
+  carried = at .carried + t .carried;
+  steps = steps;
+  low = low;
+  rings = rings;
+}
 
-      pub run-on : Coursing n w m more slip (t .slots) (t .trail) (points + t .carried) (k + 1) w1′ w2″
-      run-on = record {
-        taken = longer;
-        allowed = allowed-longer;
-        after = now-after;
-        rest =
-            h .rest
-            ∙ ap (behind (h .taken)) (course-on n now-graph (namesFrom m slip k) (fuel m more k)
-            (namesFrom m slip (k + 1)) (fuel m more (k + 1)) s (ahead m more slip k l) next-left)
-            ∙ behind-append (h .taken) (s ∷ [])
-            (course n (apply now-graph s) (namesFrom m slip (k + 1)) (fuel m more (k + 1)))
-            ∙ ap (λ (p : Points). behind longer (course n p (namesFrom m slip (k + 1)) (fuel m more (k + 1))))
-            (sym (left-append w (h .taken) (s ∷ [])));
-        top = omega arith;
-      }
+module _ {m : ℕ} {at : Place} {x : Found} {w1 w2 : List ℕ} (f : FoundThere m at x w1 w2) where
+  abbrev h : Coursing (f .n) (f .w) m (f .more) (f .slip) at w1 w2
+  h = f .coursing
+
+  abbrev one : List Step
+  one = f .step ∷ []
+
+  named : stepAt (f .n) (here h) (name (f .step) .0) (name (f .step) .1) ≡ some (f .step)
+  named = next-named (run-graph h) (namesFrom m (f .slip) (at .steps)) (f .step) (f .next)
+
+  allowed : replay (f .n) (here h) (map name one) ≡ some one
+  allowed = ap one-step named
+    where
+      one-step : Option Step → Option (List Step)
+      one-step o = elim o [ none ↦ none | some t ↦ some (t ∷ []) ]
+
+  is : IsStep 1024 (here h) (name (f .step) .0) (name (f .step) .1) (f .step)
+  is =
+      is-more (run-graph h) 1024 (h .asked .cells) (name (f .step) .0) (name (f .step) .1) (f .step)
+      (step-is (run-graph h) (name (f .step) .0) (name (f .step) .1) (f .step) named)
+
+  wide : Graph 1024 (here h)
+  wide = graph-to (run-graph h) 1024 (h .asked .cells)
+
+  words : trail (here h) one ≡ stepWords (here h) (f .step)
+  words = append-nil (stepWords (here h) (f .step))
+
+  step-word : {r : Name} → Names (told (x .step)) r
+      → (r .rule ≤ 3) × (r .cell < 1024) × (r .rule * 1024 + r .cell ≡ nameWord (f .step))
+  step-word {r} q =
+      name-word (f .step) (subst (λ (a : Answer). Names a r) (f .finds .step) q)
+      (step-below wide (name (f .step) .0) (name (f .step) .1) (f .step) is)
+
+  pub step-there : StepThere (at .slots) w1 w2 (at .trail) x
+  step-there = record {
+    rule = name (f .step) .0;
+    cell = name (f .step) .1;
+    step = f .step;
+    holds = h .after .holds;
+    is = is;
+    finds = f .finds;
+    room = omega (arith, run-room h one allowed .1, ap length words);
+    fits = λ a b. (let q = ap (λ (p : Points). p a b) (h .after .graph) in
+        omega (arith, q, h .asked .small (map name (h .taken)) (h .taken) (h .allowed) a b));
+  }
+
+  -- no ring step is named by a lower cell, where reduce takes the step
+  lowest : m ≤ at .steps → LowestRing (here h) (f .step)
+  lowest l e c y p =
+      go (first-step-first (run-graph h) (f .step) first by-ring c y
+      (is-less (run-graph h) 1024 (h .asked .cells) by-ring c y p))
+    where
+      first : firstStep (f .n) (here h) ≡ some (f .step)
+      first =
+          subst (λ rs. nextStep (f .n) (here h) rs ≡ some (f .step)) (names-out m (f .slip) (at .steps) l) (f .next)
+
+      go : NoLater (name (f .step)) (by-ring, c) → name (f .step) .1 ≤ c
+      go (inl b) = absurd (omega (arith, b, ap rank e))
+      go (inr b) = b .1
+
+  module _ {w1′ w2′ : List ℕ} {t : Taken}
+      (taken : (s : Step) → stepOf (here h) x ≡ some s → StepTaken (at .slots) w1 w2 w1′ w2′ (at .trail) s t) where
+    done : StepTaken (at .slots) w1 w2 w1′ w2′ (at .trail) (f .step) t
+    done = taken (f .step) (found-step (h .after .holds) (name (f .step) .0) (name (f .step) .1) is (f .finds))
+
+    -- there is room for its name, and what it carries fits
+    pub step-named : {r : Name} → Names (told (x .step)) r
+        → (8192 ≤ length w2′) × (at .steps < 1024) × (r .rule ≤ 3) × (r .cell < 1024)
+    step-named q =
+        let n = step-word q in
+        (holds-room (done .holds) .1, omega (arith, run-room h one allowed), n .0, n .1)
+
+    pub step-carried : at .carried + t .carried < pointsRoom
+    step-carried = omega (arith, done .carried, run-room h one allowed)
+
+    went : length w2′ ≡ length w2 → (low b : ℕ) {v : ℕ} → v ≡ nameWord (f .step)
+        → Went (here h) at w2 one (stepped at t (at .steps + 1) low b) w1′ (set w2′ (atNames + at .steps) v)
+    went same low b {v} word = record {
+      holds = holds-aside (done .holds) (atNames + at .steps) v (inr (omega arith));
+      graph = done .graph;
+      carries = omega (arith, done .carried);
+      words = omega (arith, done .words, ap length words);
+      trail =
+          take-set-le (t .trail) w2′ (atNames + at .steps) v
+          (omega (arith, done .words, run-room h one allowed .1, ap length words))
+          ∙ done .trail ∙ ap (λ ws. take (at .trail) w2 ++ ws) (sym words);
+      count = omega arith;
+      names =
+          rw (add-one)
+          (ap (take (suc (at .steps))) (drop-set-add atNames w2′ (at .steps) v)
+          ∙ take-suc-set (drop atNames w2′) (at .steps) v
+          (omega (arith, length-drop atNames w2′, run-room h one allowed, holds-room (done .holds)))
+          ∙ ap₂ (λ xs x. take (at .steps) xs ++ x ∷ []) (drop-same w2 w2′ atNames same (done .aside)) word);
+    }
+
+    -- after it, with its name written
+    pub after-step : length w2′ ≡ length w2 → {v : Name} → Names (told (x .step)) v → {k : ℕ} {w2″ : List ℕ}
+        → (k ≡ at .steps + 1) × (w2″ ≡ set w2′ (atNames + at .steps) (v .rule * 1024 + v .cell)) → {low rings b : ℕ}
+        → Quieted (here h) (x .step) (at .low) low → RingQuieted (here h) (x .step) (at .rings) rings
+        → RingsLeft m k 0 rings b → Coursing (f .n) (f .w) m (f .more) (f .slip) (stepped at t k low b) w1′ w2″
+    after-step same {v} q {k} {w2″} (e, set-eq) {low} {rings} {b} quiet rung stays =
+        rw (e, set-eq) (run-on h one allowed (went same low b (step-word q .2))
+        (course-on (f .n) m (f .more) (f .slip) (at .steps) (here h) (f .ahead) (f .step) (f .next))
+        (omega (arith, f .ahead))
+        (subst (Quiet low) (sym (done .graph)) (quiet (f .step) (f .finds .step) (name (f .step)) is wide (h .quiet)))
+        (rings-stay stays (λ l z. subst (RingQuiet rings) (sym (done .graph))
+        (rung (f .step) (f .finds .step) (name (f .step)) is wide (lowest (omega arith)) (h .rings)))))

@@ -1,11 +1,12 @@
--- The heaviest pairing of a set. In order: solving with more fuel than there are places; the heaviest pairing by the
--- lowest place (`heaviest-with`); the bound of its points (`points-light`).
-use mathlib.Core.Path.{_≡_, refl, sym, ap, ap₂, fun-ext, _∙_}
+-- The heaviest pairing of a set. In order: solving with more fuel than there are places; the heaviest pairing of no
+-- place; the bound of its points (`word-light`).
+use mathlib.Core.Path.{_≡_, refl, sym, ap, ap₂, fun-ext}
 use mathlib.Core.Bool.{Bool, true, false, cond, _&&_}
 use mathlib.Core.List.{List, [], _∷_}
-use Prim.Native.Nat.{ℕ, zero, suc, _+_, _*_, _-_, _^_, _≤_, _<_}
+use Prim.Native.Nat.{ℕ, zero, suc, _+_, _*_, _-_, _/_, _≤_, _<_}
 use native.Mathlib.Omega.{arith}
 use lib.Dec.{ltb}
+use lib.Pow.{pow-pos}
 use lib.ListN.{length, getD}
 use Rattle.matching.specs.Lists.{mem}
 use Rattle.matching.specs.Pairs.{Pair, Points, sum}
@@ -13,9 +14,9 @@ use Rattle.matching.specs.Solve.{less, tries, solve}
 use Rattle.matching.proofs.Members.{mem-head, mem-on}
 use Rattle.matching.proofs.Alls.{all-mem}
 use Rattle.matching.proofs.Solve.{less-length, less-mem}
-use Rattle.sets.specs.Sets.{inSet, between, heaviest, points}
-use Rattle.sets.specs.Tries.{Lowest, together}
-use Rattle.sets.proofs.Places.{places-few, places-under, places-empty, without-first}
+use Rattle.buffers.specs.Map.{unit}
+use Rattle.sets.specs.Sets.{inSet, between, heaviest, Best}
+use Rattle.sets.proofs.Places.{places-under, places-empty, without-first}
 
 -- ---- solving with more fuel than there are places
 
@@ -28,29 +29,23 @@ solve-more (suc k) w (c ∷ cs) l =
     (fun-ext (λ p. solve-more k w (less p cs) (omega (arith, less-length p cs))))
     (solve-more k w cs (omega arith))
 
--- ---- by the lowest place
+-- ---- of no place
 
 pub heaviest-none : (ws : List ℕ) (s : ℕ) → s ≡ 0 → heaviest ws s ≡ []
 heaviest-none ws s e = ap (solve 12 (between ws)) (places-empty 12 s e)
 
-pub points-none : (ws : List ℕ) (s : ℕ) → s ≡ 0 → 0 ≡ points ws s
-points-none ws s e = sym (ap (sum (between ws)) (heaviest-none ws s e))
-
-pub heaviest-with : (ws : List ℕ) (c s : ℕ) {b : ℕ} → b ≡ 2 ^ c → Lowest c s → heaviest ws s ≡ together ws c (s - b)
-unfolding together
-heaviest-with ws c s e h =
-    sym (solve-more 12 (between ws) (inSet s) (places-few 12 s))
-    ∙ ap (solve 13 (between ws)) (without-first c s e h .1)
+pub best-none : (ws : List ℕ) (s : ℕ) → s ≡ 0 → Best ws s 1
+best-none ws s e = record {
+  marked = omega arith;
+  sums = sym (ap (sum (between ws)) (heaviest-none ws s e));
+  leads = λ {c} q l. absurd (omega (arith, without-first c s q l .0, pow-pos c));
+}
 
 -- ---- the bound of its points
 
--- the points of a pair are below this
-abbrev top : ℕ
-top = 17592186044416
-
 module _ (w : Points) (c m : ℕ) (rest : ℕ → List Pair) (r : (p : ℕ) → sum w (rest p) ≤ m) where
-  tries-light : (ps : List ℕ) (had : List Pair) → ((p : ℕ) → mem p ps ≡ true → w c p < top)
-      → sum w had ≤ m + top → sum w (tries rest w c ps had) ≤ m + top
+  tries-light : (ps : List ℕ) (had : List Pair) → ((p : ℕ) → mem p ps ≡ true → w c p < unit)
+      → sum w had ≤ m + unit → sum w (tries rest w c ps had) ≤ m + unit
   tries-light [] had l h = h
   tries-light (p ∷ ps) had l h =
       tries-light ps (cond better ((c, p) ∷ rest p) had) (λ q n. l q (mem-on q p ps n)) (go better)
@@ -58,28 +53,30 @@ module _ (w : Points) (c m : ℕ) (rest : ℕ → List Pair) (r : (p : ℕ) → 
       better : Bool
       better = ltb 0 (w c p) && ltb (sum w had) (w c p + sum w (rest p))
 
-      go : (t : Bool) → sum w (cond t ((c, p) ∷ rest p) had) ≤ m + top
+      go : (t : Bool) → sum w (cond t ((c, p) ∷ rest p) had) ≤ m + unit
       go true = omega (arith, l p (mem-head p p ps refl), r p)
       go false = h
 
 solve-light : (k : ℕ) (w : Points) (cs : List ℕ)
-    → ((a b : ℕ) → mem a cs ≡ true → mem b cs ≡ true → w a b < top)
-    → sum w (solve k w cs) ≤ k * top
+    → ((a b : ℕ) → mem a cs ≡ true → mem b cs ≡ true → w a b < unit)
+    → sum w (solve k w cs) ≤ k * unit
 solve-light zero w cs l = omega arith
 solve-light (suc k) w [] l = omega arith
 solve-light (suc k) w (c ∷ cs) l =
     omega (
       arith,
-      tries-light w c (k * top) (λ p. solve k w (less p cs)) (λ p. solve-light k w (less p cs) (λ a b g h. l a b
+      tries-light w c (k * unit) (λ p. solve k w (less p cs)) (λ p. solve-light k w (less p cs) (λ a b g h. l a b
           (mem-on a c cs (less-mem p a cs g .0)) (mem-on b c cs (less-mem p b cs h .0)))) cs (solve k w cs)
           (λ p h. l c p (mem-head c c cs refl) (mem-on p c cs h))
           (omega (arith, solve-light k w cs (λ a b g h. l a b (mem-on a c cs g) (mem-on b c cs h)))),
     )
 
-pub points-light : (ws : List ℕ) (s : ℕ) → ((i : ℕ) → i < 144 → getD ws i 0 < 17592186044416)
-    → points ws s ≤ 12 * 17592186044416
-points-light ws s l =
-    solve-light 12 (between ws) (inSet s) (λ a b g h. l (12 * a + b) (omega (arith, under a g, under b h)))
+pub word-light : {ws : List ℕ} {s v : ℕ} → ((i : ℕ) → i < 144 → getD ws i 0 < unit) → Best ws s v
+    → v / 16 ≤ 12 * unit
+word-light {ws} {s} {v} l b = omega (arith, b .sums, solve-light 12 (between ws) (inSet s) small)
   where
     under : (x : ℕ) → mem x (inSet s) ≡ true → x < 12
     under = all-mem (λ x. x < 12) (inSet s) (places-under 12 s)
+
+    small : (i j : ℕ) → mem i (inSet s) ≡ true → mem j (inSet s) ≡ true → between ws i j < unit
+    small i j g h = l (12 * i + j) (omega (arith, under i g, under j h))

@@ -18,8 +18,7 @@ use Rattle.matching.proofs.Tests.{Test, pass, fail, eqT, ltT}
 use Rattle.matching.proofs.Members.{mem-append, mem-head, no-mem, or-left, or-right}
 use Rattle.matching.proofs.Alls.{all-map, all-append}
 use Rattle.matching.proofs.Solve.{less-length}
-use Rattle.sets.specs.Sets.{places, inSet}
-use Rattle.sets.specs.Tries.{Lowest}
+use Rattle.sets.specs.Sets.{places, inSet, Lowest}
 
 -- ---- the bits of a set less one place
 
@@ -242,6 +241,9 @@ less-shorter p (c ∷ cs) h = go (eqT c p) h (less-shorter p cs)
 
 pub without-first : (c s : ℕ) {b : ℕ} → b ≡ 2 ^ c → Lowest c s → (b ≤ s) × (inSet s ≡ c ∷ inSet (s - b))
 without-first c s e h = rw e (bit-within s c (h .1), first-place c s (h .0) (h .1) (h .2))
+
+pub lowest-one : (c d s : ℕ) → Lowest c s → Lowest d s → c ≡ d
+lowest-one c d s l m = cc (without-first c s refl l .1, without-first d s refl m .1)
 
 pub fewer-first : (c s : ℕ) {b : ℕ} → b ≡ 2 ^ c → Lowest c s → length (inSet s) ≡ suc (length (inSet (s - b)))
 fewer-first c s e h = ap length (without-first c s e h .1)

@@ -1,3 +1,2 @@
 -- The heaviest pairing of a set of at most 12 cells.
 pub mod Sets
-pub mod Tries

@@ -1,19 +1,20 @@
 -- A set of at most 12 cells, by their places in a list of cells, as a number whose bits tell which are in it; the
--- points between them; the heaviest pairing of a set. Inner contracts cite this; what they promise is `solve` of crate
--- matching.
+-- points between them; the heaviest pairing of a set, and what is kept of it. Inner contracts cite this; what they
+-- promise is `solve` of crate matching.
 --
 -- The first words: the points between place i and place j at 12 × i + j, and from 144 on the cells. In the buffer that
--- is written, the pairs found stand from 0 on, and from 4,096 on for each set 0, or its points and 1.
+-- is written, the pairs found stand from 0 on, and from 4,096 on for each set 0, or its word (`Best`).
 use mathlib.Core.Path.{_≡_}
 use mathlib.Core.Bool.{cond}
 use mathlib.Core.List.{List, [], _∷_, _++_}
-use Prim.Native.Nat.{ℕ, zero, suc, _+_, _*_, _/_, _%_, _^_, _≤_, _<_}
+use Prim.Native.Nat.{ℕ, zero, suc, _+_, _*_, _-_, _/_, _%_, _^_, _≤_, _<_}
 use lib.Dec.{eqb}
-use lib.ListN.{length, getD}
+use lib.ListN.{length, getD, take}
 use Rattle.matching.specs.Pairs.{Pair, Points, sum}
 use Rattle.matching.specs.Solve.{solve}
 use Rattle.cellfile.specs.Fields.{packed}
 use Rattle.cellfile.specs.Files.{pairing}
+use Rattle.buffers.specs.Map.{unit}
 
 -- The places below k that are in the set, ascending.
 unfoldable pub places : ℕ → ℕ → List ℕ
@@ -40,14 +41,42 @@ points ws s = sum (between ws) (heaviest ws s)
 abbrev pub pairOf : List ℕ → Pair → ℕ
 pairOf ws e = packed (pairing .entry) (cellAt ws (e .0) ∷ cellAt ws (e .1) ∷ 0 ∷ [])
 
+-- The place is in the set, and none below it.
+abbrev pub Lowest : ℕ → ℕ → Type 0
+Lowest c s = (c < 12) × (s / 2 ^ c % 2 ≡ 1) × (places c s ≡ [])
+
+-- The heaviest pairing of the place c and a set above it in which c has that partner: 0 where it has none, else the
+-- partner's place and 1; such a number for the set.
+abbrev pub partnered : List ℕ → ℕ → ℕ → ℕ → List Pair
+partnered ws c rest zero = heaviest ws rest
+partnered ws c rest (suc p) = (c, p) ∷ heaviest ws (rest - 2 ^ p)
+
+abbrev pub Partner : ℕ → ℕ → Type 0
+Partner rest r = (r ≤ 12) × (0 < r → rest / 2 ^ (r - 1) % 2 ≡ 1)
+
+-- The word v of a set: the points of its heaviest pairing, and in the four bits below, its lowest place's partner in it
+-- and 1.
+pub record Best (ws : List ℕ) (s v : ℕ) : Type 0 where
+  pub marked : 0 < v % 16
+  pub sums : v / 16 ≡ points ws s
+  pub leads : {c b : ℕ} → b ≡ 2 ^ c → Lowest c s
+      → Partner (s - b) (v % 16 - 1) × (heaviest ws s ≡ partnered ws c (s - b) (v % 16 - 1))
+
 -- What is known of sets is right.
 abbrev pub Known : List ℕ → List ℕ → Type 0
-Known ws w1 = (s : ℕ) → s < 4096 → 0 < getD w1 (4096 + s) 0 → getD w1 (4096 + s) 0 ≡ suc (points ws s)
+Known ws w1 = (s : ℕ) → s < 4096 → 0 < getD w1 (4096 + s) 0 → Best ws s (getD w1 (4096 + s) 0)
 
+-- The buffer w1 where it was w0: what is known is right, and the pairs found stand.
+pub record Kept (ws w0 w1 : List ℕ) : Type 0 where
+  pub long : length w1 ≡ length w0
+  pub known : Known ws w1
+  pub front : take 4096 w1 ≡ take 4096 w0
+
+-- The points between places stay below `unit`: those of 12 pairs have less than 58 bits, and a word has room for them.
 pub record Ready (ws w1 : List ℕ) (s : ℕ) : Type 0 where
   pub within : s < 4096
   pub words : 156 ≤ length ws
   pub room : 8192 ≤ length w1
-  pub light : (i : ℕ) → i < 144 → getD ws i 0 < 17592186044416
+  pub light : (i : ℕ) → i < 144 → getD ws i 0 < unit
   pub cells : (i : ℕ) → i < 12 → cellAt ws i < 1024
   pub known : Known ws w1

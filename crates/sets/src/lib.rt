@@ -1,12 +1,9 @@
 // Inner, for solving: the heaviest pairing of a set of at most 12 cells, by their places. See specs/Sets.
 ghost use mathlib.Core.Path.{_≡_};
-ghost use mathlib.Core.List.{[], _∷_, map};
+ghost use mathlib.Core.List.{map};
 ghost use Prim.Native.Nat.{_^_, _<_, _≤_};
 ghost use lib.ListN.{length, take};
-ghost use Rattle.cellfile.specs.Fields.{packed};
-ghost use Rattle.cellfile.specs.Files.{pairing};
-ghost use Rattle.sets.specs.Sets.{heaviest, points, pairOf, Known, Ready};
-ghost use Rattle.sets.specs.Tries.{Lowest, together, partnered, Partner};
+ghost use Rattle.sets.specs.Sets.{heaviest, cellAt, pairOf, Lowest, Best, Kept, Ready};
 
 // How many places there are; where the cells start among the first words, and the table in the buffer.
 const PLACES: usize = 12;
@@ -14,6 +11,9 @@ const PLACES: usize = 12;
 const CELLS: usize = 144;
 
 const TABLE: usize = 4096;
+
+// One of the points in the word of a set, above the partner and 1.
+const POINT: u64 = 16;
 
 // One of the first, and of the second, cell of a pair in the word of a pairing.
 const CELL_A: u64 = 16384;
@@ -40,47 +40,22 @@ fn single(p: usize) -> usize
     1 << p
 }
 
-// The points of the heaviest pairing of the set s, by recursion over smaller sets; what is found is kept in the table.
+// The word of the set s: the points of its heaviest pairing, and the partner of its lowest place in it (0 where it has
+// none, else the partner's place and 1). By recursion over smaller sets; what is found is kept in the table.
 fn heavy(ws: &[u64], w1: &mut [u64], s: usize) -> u64
     requires { ⌜ Ready (now ws) (now w1) s ⌝ }
-    ensures { λ r. ⌜ (r ≡ points (now (ws .entry)) s) × Known (now (ws .entry)) (now (w1 .exit))
-        × (take 4096 (now (w1 .exit)) ≡ take 4096 (now (w1 .entry))) ⌝ }
+    ensures { λ r. ⌜ Best (now (ws .entry)) s r × Kept (now (ws .entry)) (now (w1 .entry)) (now (w1 .exit)) ⌝ }
 {
     if s == 0 {
-        return 0;
+        return 1;
     }
     let have = w1[TABLE + s];
     if have != 0 {
-        return have - 1;
+        return have;
     }
     let c = lowest(s);
     let rest = s - single(c);
-    let mut best = heavy(ws, w1, rest);
-    let mut p = 0;
-    while p < PLACES {
-        let q = p;
-        p += 1;
-        if (rest >> q) % 2 == 1 {
-            let x = ws[PLACES * c + q];
-            if 0 < x {
-                let y = x + heavy(ws, w1, rest - single(q));
-                if best < y {
-                    best = y;
-                }
-            }
-        }
-    }
-    w1[TABLE + s] = best + 1;
-    best
-}
-
-// The partner of the place c in the heaviest pairing of it and a set above it: its place and 1, or 0.
-fn partner_of(ws: &[u64], w1: &mut [u64], c: usize, rest: usize) -> usize
-    requires { ⌜ (c < 12) × Ready (now ws) (now w1) rest ⌝ }
-    ensures { λ r. ⌜ (together (now (ws .entry)) c rest ≡ partnered (now (ws .entry)) c rest r) × Partner rest r
-        × Known (now (ws .entry)) (now (w1 .exit)) × (take 4096 (now (w1 .exit)) ≡ take 4096 (now (w1 .entry))) ⌝ }
-{
-    let mut had = heavy(ws, w1, rest);
+    let mut best = heavy(ws, w1, rest) / POINT;
     let mut partner = 0;
     let mut p = 0;
     while p < PLACES {
@@ -89,22 +64,27 @@ fn partner_of(ws: &[u64], w1: &mut [u64], c: usize, rest: usize) -> usize
         if (rest >> q) % 2 == 1 {
             let x = ws[PLACES * c + q];
             if 0 < x {
-                let y = x + heavy(ws, w1, rest - single(q));
-                if had < y {
-                    had = y;
+                let y = x + heavy(ws, w1, rest - single(q)) / POINT;
+                if best < y {
+                    best = y;
                     partner = p;
                 }
             }
         }
     }
-    partner
+    let word = best * POINT + partner as u64 + 1;
+    w1[TABLE + s] = word;
+    word
 }
 
-// The word of a pairing for the cells a and b.
-fn pair_word(a: u64, b: u64) -> u64
-    requires { ⌜ (a < 1024) × (b < 1024) ⌝ }
-    ensures { λ r. ⌜ r ≡ packed (pairing .entry) (a ∷ b ∷ 0 ∷ []) ⌝ }
+// The word of a pairing for the cells at the places i and j.
+fn pair_word(ws: &[u64], i: usize, j: usize) -> u64
+    requires { ⌜ (i < 12) × (j < 12) × (156 ≤ length (now ws)) × (cellAt (now ws) i < 1024)
+        × (cellAt (now ws) j < 1024) ⌝ }
+    ensures { λ r. ⌜ r ≡ pairOf (now (ws .entry)) (i, j) ⌝ }
 {
+    let a = ws[CELLS + i];
+    let b = ws[CELLS + j];
     a * CELL_A + b * CELL_B
 }
 
@@ -118,14 +98,13 @@ pub fn solve_set(ws: &[u64], w1: &mut [u64], s: usize) -> usize
     let mut left = s;
     let mut n = 0;
     while left != 0 {
+        let partner = (heavy(ws, w1, left) % POINT - 1) as usize;
         let c = lowest(left);
-        let rest = left - single(c);
-        let partner = partner_of(ws, w1, c, rest);
-        left = rest;
+        left -= single(c);
         if partner != 0 {
             let p = partner - 1;
-            left = rest - single(p);
-            w1[n] = pair_word(ws[CELLS + c], ws[CELLS + p]);
+            left -= single(p);
+            w1[n] = pair_word(ws, c, p);
             n += 1;
         }
     }

@@ -8,6 +8,7 @@ use Prim.Native.Nat.{ℕ, suc, _+_, _*_, _≤_, _<_}
 use native.Mathlib.Omega.{arith}
 use native.Mathlib.Numerals.{add-one}
 use lib.ListN.{length, getD, set}
+use Rattle.buffers.specs.Map.{atCells, atSums, atLasts}
 use Rattle.matching.specs.Pairs.{touches}
 use Rattle.matching.specs.Graph.{put}
 use Rattle.matching.proofs.Tests.{Test, pass, fail, eqT}
@@ -107,10 +108,10 @@ module _ (s t : Store) (e a b k : ℕ) (h : Slots e s) (p : Appended s t e a b k
 -- ---- room: a last slot fits its link, a sum has room for a key more
 
 module _ {e : ℕ} {w1 w2 : List ℕ} (h : Holds e w1 w2) (c : ℕ) (l : c < 1024) where
-  pub last-most : getD w2 (5120 + c) 0 ≤ 4096
+  pub last-most : getD w2 (atLasts + c) 0 ≤ 4096
   last-most = omega (arith, h .slots .lasts c l, last-is (store w1 w2) c e .low, h .slots .most)
 
-  pub sum-most : getD w2 (4096 + c) 0 < 9223372036854775808
+  pub sum-most : getD w2 (atSums + c) 0 < 9223372036854775808
   sum-most =
       omega (
         arith,
@@ -126,43 +127,43 @@ module _ {e : ℕ} {w1 w2 : List ℕ} (h : Holds e w1 w2) (c : ℕ) (l : c < 102
 -- ---- over the buffers
 
 module _ {w1 w2 w1′ t w2′ : List ℕ} {e a b k lowLink highLink x : ℕ} (h : Holds e w1 w2) (le : e < 4096) (pos : 0 < k)
-    (lt : a < b) (lb : b < 1024) (absent : graphOf e w1 a b ≡ 0) (el : lowLink ≡ getD w2 (5120 + a) 0)
-    (eh : highLink ≡ getD w2 (5120 + b) 0) (ex : x ≡ a + b * 1024 + lowLink * 1048576 + highLink * 8589934592)
-    (e1 : w1′ ≡ set (set w1 e k) (4096 + e) x) (e2 : t ≡ set (set w2 (5120 + a) (e + 1)) (5120 + b) (e + 1))
+    (lt : a < b) (lb : b < 1024) (absent : graphOf e w1 a b ≡ 0) (el : lowLink ≡ getD w2 (atLasts + a) 0)
+    (eh : highLink ≡ getD w2 (atLasts + b) 0) (ex : x ≡ a + b * 1024 + lowLink * 1048576 + highLink * 8589934592)
+    (e1 : w1′ ≡ set (set w1 e k) (atCells + e) x) (e2 : t ≡ set (set w2 (atLasts + a) (e + 1)) (atLasts + b) (e + 1))
     (ad : Added t w2′ e a b) (len : length w2′ ≡ length w2) where
-  cell-word : getD w1′ (4096 + e) 0 ≡ x
-  cell-word = stored-last w1 e k (4096 + e) x e1 (omega (arith, h .room1))
+  cell-word : getD w1′ (atCells + e) 0 ≡ x
+  cell-word = stored-last w1 e k (atCells + e) x e1 (omega (arith, h .room1))
 
-  old-word : (j : ℕ) → j ≢ e → j ≢ 4096 + e → getD w1′ j 0 ≡ getD w1 j 0
-  old-word = elsewhere-both w1 e k (4096 + e) x e1
+  old-word : (j : ℕ) → j ≢ e → j ≢ atCells + e → getD w1′ j 0 ≡ getD w1 j 0
+  old-word = elsewhere-both w1 e k (atCells + e) x e1
 
-  kept : (j : ℕ) → j ≢ 5120 + a → j ≢ 5120 + b → j ≢ 4096 + a → j ≢ 4096 + b → getD w2′ j 0 ≡ getD w2 j 0
-  kept j n m n′ m′ = ad .others j n′ m′ ∙ elsewhere-both w2 (5120 + a) (e + 1) (5120 + b) (e + 1) e2 j n m
+  kept : (j : ℕ) → j ≢ atLasts + a → j ≢ atLasts + b → j ≢ atSums + a → j ≢ atSums + b → getD w2′ j 0 ≡ getD w2 j 0
+  kept j n m n′ m′ = ad .others j n′ m′ ∙ elsewhere-both w2 (atLasts + a) (e + 1) (atLasts + b) (e + 1) e2 j n m
 
   is-appended : Appended (store w1 w2) (store w1′ w2′) e a b k
   is-appended = record {
-    old = λ j l. (let q = old-word (4096 + j) (omega arith) (omega arith) in
+    old = λ j l. (let q = old-word (atCells + j) (omega arith) (omega arith) in
         ((old-word j (omega arith) (omega arith), rw q, rw q), rw q, rw q));
-    weight = stored-first w1 e k (4096 + e) x e1 (omega arith) (omega (arith, h .room1));
+    weight = stored-first w1 e k (atCells + e) x e1 (omega arith) (omega (arith, h .room1));
     low = rw cell-word (omega (arith, ex));
     high = rw cell-word (omega (arith, ex));
     lowLink = rw cell-word (omega (arith, ex, el, last-most h a (omega arith)));
     highLink = rw cell-word (omega (arith, ex, eh, el, last-most h a (omega arith)));
-    lowSum = omega (arith, ad .low, elsewhere-both w2 _ _ _ _ e2 (4096 + a) (omega arith) (omega arith));
-    highSum = omega (arith, ad .high, elsewhere-both w2 _ _ _ _ e2 (4096 + b) (omega arith) (omega arith));
+    lowSum = omega (arith, ad .low, elsewhere-both w2 _ _ _ _ e2 (atSums + a) (omega arith) (omega arith));
+    highSum = omega (arith, ad .high, elsewhere-both w2 _ _ _ _ e2 (atSums + b) (omega arith) (omega arith));
     lowLast = omega (
       arith,
-      ad .others (5120 + a) (omega arith) (omega arith),
+      ad .others (atLasts + a) (omega arith) (omega arith),
       stored-first w2 _ _ _ _ e2 (omega arith) (omega (arith, h .room2)),
     );
     highLast = omega (
       arith,
-      ad .others (5120 + b) (omega arith) (omega arith),
+      ad .others (atLasts + b) (omega arith) (omega arith),
       stored-last w2 _ _ _ _ e2 (omega (arith, h .room2)),
     );
     others = λ c l n m. (
-      kept (4096 + c) (omega arith) (omega arith) (omega arith) (omega arith),
-      kept (5120 + c) (omega arith) (omega arith) (omega arith) (omega arith),
+      kept (atSums + c) (omega arith) (omega arith) (omega arith) (omega arith),
+      kept (atLasts + c) (omega arith) (omega arith) (omega arith) (omega arith),
     );
   }
 

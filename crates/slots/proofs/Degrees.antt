@@ -9,6 +9,7 @@ use native.Mathlib.Omega.{arith}
 use lib.Dec.{eqb, ltb}
 use lib.ListN.{length, getD, length-append}
 use borrow.Author.Tests.{lt-ltb, le-ltb}
+use Rattle.buffers.specs.Map.{atSums}
 use Rattle.matching.specs.Pairs.{Points, ι, hit}
 use Rattle.matching.specs.Graph.{partners, degree}
 use Rattle.matching.proofs.Tests.{Test, pass, fail, eqT, ltT, fails}
@@ -199,6 +200,6 @@ module _ (e : ℕ) (s : Store) (h : Slots e s) (c : ℕ) where
       )
 
 pub degree-of : {e : ℕ} {w1 w2 : List ℕ} → Holds e w1 w2 → (c : ℕ) → c < 1024
-    → getD w2 (4096 + c) 0 / 70368744177664 ≡ degree 1024 (graphOf e w1) c
+    → getD w2 (atSums + c) 0 / 70368744177664 ≡ degree 1024 (graphOf e w1) c
 unfolding graph
 degree-of {e} {w1} {w2} h c l = degree-sum e (store w1 w2) (h .slots) c l

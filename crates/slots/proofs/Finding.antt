@@ -7,6 +7,7 @@ use mathlib.Core.List.{List}
 use Prim.Native.Nat.{ℕ, suc, _+_, _≤_, _<_, zero, _-_}
 use native.Mathlib.Omega.{arith}
 use lib.ListN.{getD}
+use Rattle.buffers.specs.Map.{atLasts}
 use Rattle.matching.specs.Pairs.{same, touches}
 use Rattle.matching.proofs.Tests.{Test, pass, fail, eqT, ltT, notT, holds, fails}
 use Rattle.matching.proofs.Pairs.{Same}
@@ -24,7 +25,7 @@ pub record Sought (e u v : ℕ) (w1 w2 : List ℕ) (i : ℕ) : Type 0 where
   pub next : i ≡ last (store w1 w2) u to
   pub none : (j : ℕ) → to ≤ j → j < e → gives (store w1 w2) u v j ≡ 0
 
-pub seek-start : {e u v : ℕ} {w1 w2 : List ℕ} {i : ℕ} → Holds e w1 w2 → u < 1024 → i ≡ getD w2 (5120 + u) 0
+pub seek-start : {e u v : ℕ} {w1 w2 : List ℕ} {i : ℕ} → Holds e w1 w2 → u < 1024 → i ≡ getD w2 (atLasts + u) 0
     → Sought e u v w1 w2 i
 seek-start {e} {u} {v} {w1} {w2} h l q = record {
   to = e;

@@ -8,6 +8,7 @@ use mathlib.Core.List.{List}
 use Prim.Native.Nat.{ℕ, zero, suc, _+_, _≤_, _<_}
 use native.Mathlib.Omega.{arith}
 use lib.ListN.{length, getD, replicate, length-replicate, getD-replicate}
+use Rattle.buffers.specs.Map.{atSums, atLasts}
 use Rattle.matching.specs.Pairs.{same}
 use Rattle.matching.specs.Graph.{Graph, put}
 use Rattle.matching.proofs.Tests.{Test, pass, fail, eqT, holds, fails}
@@ -161,4 +162,4 @@ holds-empty w1 w2 n r1 r2 e =
     zero-at j l = rw (e, getD-replicate {A = ℕ} n j 0 0 l)
 
     none : NoSlots 1024 w2
-    none c l = (zero-at (4096 + c) (omega arith), zero-at (5120 + c) (omega arith))
+    none c l = (zero-at (atSums + c) (omega arith), zero-at (atLasts + c) (omega arith))

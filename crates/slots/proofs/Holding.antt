@@ -10,6 +10,7 @@ use Prim.Native.Nat.{ℕ, _+_, _≤_, _<_}
 use native.Mathlib.Omega.{arith}
 use lib.Dec.{eqb}
 use lib.ListN.{length, set}
+use Rattle.buffers.specs.Map.{atCells, trailRoom, atSums, atLasts, atNames}
 use Rattle.matching.specs.Pairs.{Points}
 use Rattle.matching.specs.Graph.{put}
 use Rattle.matching.proofs.Tests.{holds}
@@ -28,7 +29,7 @@ holds-room h = (h .room1, h .room2, h .slots .most)
 -- ---- words aside
 
 -- a word of the second buffer that is not the graph's is set
-pub holds-aside : {e : ℕ} {w1 w2 : List ℕ} → Holds e w1 w2 → (t k : ℕ) → (t < 4096) ⊎ (6144 ≤ t)
+pub holds-aside : {e : ℕ} {w1 w2 : List ℕ} → Holds e w1 w2 → (t k : ℕ) → (t < trailRoom) ⊎ (atNames ≤ t)
     → Holds e w1 (set w2 t k)
 unfolding graph
 holds-aside {e} {w1} {w2} h t k off = record {
@@ -42,9 +43,9 @@ holds-aside {e} {w1} {w2} h t k off = record {
       h .slots .links i m .0 ∙ lasts-kept (lowOf w1 i) i,
       h .slots .links i m .1 ∙ lasts-kept (highOf w1 i) i,
     );
-    sums = λ c m. elsewhere w2 t k refl (4096 + c) (apart (4096 + c) (omega arith) (omega arith) off)
+    sums = λ c m. elsewhere w2 t k refl (atSums + c) (apart (atSums + c) (omega arith) (omega arith) off)
         ∙ h .slots .sums c m;
-    lasts = λ c m. elsewhere w2 t k refl (5120 + c) (apart (5120 + c) (omega arith) (omega arith) off)
+    lasts = λ c m. elsewhere w2 t k refl (atLasts + c) (apart (atLasts + c) (omega arith) (omega arith) off)
         ∙ h .slots .lasts c m ∙ lasts-kept c e;
   };
 }
@@ -52,11 +53,11 @@ holds-aside {e} {w1} {w2} h t k off = record {
     lasts-kept : (c i : ℕ) → last (store w1 w2) c i ≡ last (store w1 (set w2 t k)) c i
     lasts-kept c i = last-same (store w1 (set w2 t k)) (store w1 w2) c i (λ j m. (refl, refl))
 
-    apart : (j : ℕ) → 4096 ≤ j → j < 6144 → (t < 4096) ⊎ (6144 ≤ t) → j ≢ t
+    apart : (j : ℕ) → atSums ≤ j → j < atNames → (t < trailRoom) ⊎ (atNames ≤ t) → j ≢ t
     apart j a b (inl l) = λ q. omega arith
     apart j a b (inr l) = λ q. omega arith
 
-pub holds-trail : {e : ℕ} {w1 w2 : List ℕ} → Holds e w1 w2 → (t k : ℕ) → t < 4096 → Holds e w1 (set w2 t k)
+pub holds-trail : {e : ℕ} {w1 w2 : List ℕ} → Holds e w1 w2 → (t k : ℕ) → t < trailRoom → Holds e w1 (set w2 t k)
 holds-trail h t k l = holds-aside h t k (inl l)
 
 -- ---- the pair of a live slot
@@ -94,5 +95,5 @@ pub joins-other : {e : ℕ} {w1 w2 : List ℕ} {i x y : ℕ} → Holds e w1 w2 �
 joins-other {e} {w1} {w2} {i} {x} {y} h k j l n = record {
   below = k .below;
   live = rw (elsewhere w1 j 0 refl i n) (k .live);
-  cells = rw (elsewhere w1 j 0 refl (4096 + i) (omega (arith, h .slots .most))) (k .cells);
+  cells = rw (elsewhere w1 j 0 refl (atCells + i) (omega (arith, h .slots .most))) (k .cells);
 }

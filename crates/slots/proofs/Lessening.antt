@@ -8,6 +8,7 @@ use Prim.Native.Nat.{ℕ, zero, suc, _+_, _-_, _≤_, _<_}
 use native.Mathlib.Omega.{arith}
 use lib.Dec.{eqb}
 use lib.ListN.{getD, set}
+use Rattle.buffers.specs.Map.{atCells, atLasts}
 use Rattle.matching.specs.Pairs.{touches}
 use Rattle.matching.proofs.Tests.{Test, pass, fail, eqT, ltT}
 use Rattle.matching.proofs.Pairs.{Same}
@@ -65,7 +66,7 @@ module _ (s t : Store) (u p : ℕ) where
 pub record Lessened (e u p : ℕ) (w0 w02 w1 w2 : List ℕ) (i : ℕ) : Type 0 where
   pub holds : Holds e w1 w2
   pub aside : Aside w02 w2
-  pub cells : (j : ℕ) → getD w1 (4096 + j) 0 ≡ getD w0 (4096 + j) 0
+  pub cells : (j : ℕ) → getD w1 (atCells + j) 0 ≡ getD w0 (atCells + j) 0
   pub to : ℕ
   pub top : to ≤ e
   pub next : i ≡ last (store w1 w2) u to
@@ -73,7 +74,7 @@ pub record Lessened (e u p : ℕ) (w0 w02 w1 w2 : List ℕ) (i : ℕ) : Type 0 w
       → getD w1 j 0 ≡ cond (touches u (lowOf w0 j) (highOf w0 j)) (getD w0 j 0 - p) (getD w0 j 0)
   pub left : (j : ℕ) → j < to → getD w1 j 0 ≡ getD w0 j 0
 
-pub less-start : {e u p : ℕ} {w1 w2 : List ℕ} {i : ℕ} → Holds e w1 w2 → u < 1024 → i ≡ getD w2 (5120 + u) 0
+pub less-start : {e u p : ℕ} {w1 w2 : List ℕ} {i : ℕ} → Holds e w1 w2 → u < 1024 → i ≡ getD w2 (atLasts + u) 0
     → Lessened e u p w1 w2 w1 w2 i
 less-start {e} {u} h l q = record {
   holds = h;
@@ -98,8 +99,8 @@ module _ {e u p : ℕ} {w0 w02 w1 w2 : List ℕ} {i : ℕ} (h : Lessened e u p w
     slot-low : k < 4096
     slot-low = omega (arith, less-in k n, h .holds .slots .most)
 
-    still : (j : ℕ) → getD w1′ (4096 + j) 0 ≡ getD w1 (4096 + j) 0
-    still j = elsewhere w1 k _ q (4096 + j) (omega (arith, slot-low))
+    still : (j : ℕ) → getD w1′ (atCells + j) 0 ≡ getD w1 (atCells + j) 0
+    still j = elsewhere w1 k _ q (atCells + j) (omega (arith, slot-low))
 
     less-next : i′ ≡ last (store w1′ w2′) u k
     less-next = b ∙ link-is e (store w1′ w2′) k u (h′ .slots) (less-in k n) (rw (still k) (here .at k n))

@@ -7,6 +7,7 @@ use mathlib.Core.List.{List, [], _∷_}
 use Prim.Native.Nat.{ℕ, _+_, _-_, _/_, _%_, _≤_, _<_}
 use native.Mathlib.Omega.{arith}
 use lib.ListN.{getD}
+use Rattle.buffers.specs.Map.{atSums}
 use Rattle.matching.specs.Pairs.{hit}
 use Rattle.matching.specs.Graph.{partners, degree}
 use Rattle.matching.proofs.Tests.{Test, pass, fail, ltT}
@@ -115,7 +116,8 @@ module _ (e : ℕ) (s : Store) (h : Slots e s) (c : ℕ) where
           (h .sums c lc ∙ total-only (keyOf s c) e (o .at) (o .low) (λ j m n. live-none j m (o .none j m n)))
 
 pub only-of : {e : ℕ} {w1 w2 : List ℕ} → Holds e w1 w2 → (c : ℕ) → c < 1024 → degree 1024 (graphOf e w1) c ≡ 1
-    → (r : Other) → r .slot ≡ getD w2 (4096 + c) 0 % 16777216 → r .partner ≡ getD w2 (4096 + c) 0 / 16777216 % 4194304
+    → (r : Other) → r .slot ≡ getD w2 (atSums + c) 0 % 16777216
+    → r .partner ≡ getD w2 (atSums + c) 0 / 16777216 % 4194304
     → Only e w1 c r
 unfolding graph
 only-of {e} {w1} {w2} h c l d r q k =

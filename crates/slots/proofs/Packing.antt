@@ -8,6 +8,7 @@ use Prim.Native.Nat.{ℕ, _+_, _≤_, _<_}
 use native.Mathlib.Omega.{arith}
 use native.Mathlib.Numerals.{add-one}
 use lib.ListN.{length, getD, set}
+use Rattle.buffers.specs.Map.{atCells, atSums, atLasts}
 use Rattle.matching.specs.Graph.{put}
 use Rattle.matching.proofs.Tests.{Test, pass, fail, eqT}
 use Rattle.slots.specs.Slots.{total, store, graph, Holds, graphOf, lowOf, highOf, Aside, Changed, Beyond, NoSlots}
@@ -20,20 +21,20 @@ use Rattle.slots.proofs.Lives.{live-none, live-more, live-past}
 
 -- The words of cell c are cleared.
 abbrev pub cleared : ℕ → List ℕ → List ℕ
-cleared c w = set (set w (4096 + c) 0) (5120 + c) 0
+cleared c w = set (set w (atSums + c) 0) (atLasts + c) 0
 
 pub none-more : (c : ℕ) (w : List ℕ) → c < 1024 → 8192 ≤ length w → NoSlots c w → NoSlots (c + 1) (cleared c w)
 none-more c w l r h x k = go (eqT x c)
   where
     go : {t : Bool} → Test (x ≡ c) (x ≢ c) t
-        → (getD (cleared c w) (4096 + x) 0 ≡ 0) × (getD (cleared c w) (5120 + x) 0 ≡ 0)
+        → (getD (cleared c w) (atSums + x) 0 ≡ 0) × (getD (cleared c w) (atLasts + x) 0 ≡ 0)
     go (pass q) = rw q (
-      stored-first w (4096 + c) 0 (5120 + c) 0 refl (omega arith) (omega arith),
-      stored-last w (4096 + c) 0 (5120 + c) 0 refl (omega arith),
+      stored-first w (atSums + c) 0 (atLasts + c) 0 refl (omega arith) (omega arith),
+      stored-last w (atSums + c) 0 (atLasts + c) 0 refl (omega arith),
     )
     go (fail n) = (
-      elsewhere-both w _ _ _ _ refl (4096 + x) (omega arith) (omega arith) ∙ h x (omega arith) .0,
-      elsewhere-both w _ _ _ _ refl (5120 + x) (omega arith) (omega arith) ∙ h x (omega arith) .1,
+      elsewhere-both w _ _ _ _ refl (atSums + x) (omega arith) (omega arith) ∙ h x (omega arith) .0,
+      elsewhere-both w _ _ _ _ refl (atLasts + x) (omega arith) (omega arith) ∙ h x (omega arith) .1,
     )
 
 pub none-aside : (c : ℕ) (w : List ℕ) → c < 1024 → Aside w (cleared c w)
@@ -50,7 +51,7 @@ pub record Packed (e : ℕ) (w0 v w1 w2 : List ℕ) (i j : ℕ) : Type 0 where
   pub count : j ≡ live i w0
   pub changed : Changed j (graphOf i w0) w1 v w2
   pub rest : (k : ℕ) → i ≤ k → k < e
-      → (getD w1 k 0 ≡ getD w0 k 0) × (getD w1 (4096 + k) 0 ≡ getD w0 (4096 + k) 0)
+      → (getD w1 k 0 ≡ getD w0 k 0) × (getD w1 (atCells + k) 0 ≡ getD w0 (atCells + k) 0)
 
 pub pack-start : {e : ℕ} {w1 w2 v : List ℕ} → Holds e w1 w2 → NoSlots 1024 v → length v ≡ length w2
     → Packed e w1 v w1 v 0 0
@@ -69,7 +70,7 @@ pack-start {e} {w1} {w2} {v} h n q = record {
 
 module _ {e : ℕ} {w0 w02 v w1 w2 : List ℕ} {i j : ℕ} (h0 : Holds e w0 w02) (p : Packed e w0 v w1 w2 i j) (l : i < e)
   where
-    here : (getD w1 i 0 ≡ getD w0 i 0) × (getD w1 (4096 + i) 0 ≡ getD w0 (4096 + i) 0)
+    here : (getD w1 i 0 ≡ getD w0 i 0) × (getD w1 (atCells + i) 0 ≡ getD w0 (atCells + i) 0)
     here = p .rest i (omega arith) l
 
     pub pack-cells : (lowOf w1 i < highOf w1 i) × (highOf w1 i < 1024)
@@ -114,7 +115,7 @@ module _ {e : ℕ} {w0 w02 v w1 w2 : List ℕ} {i j : ℕ} (h0 : Holds e w0 w02)
           };
           rest = λ k a m. (
             b k (omega (arith, p .fewer)) (omega (arith, h0 .slots .most)) ∙ p .rest k (omega arith) m .0,
-            b (4096 + k) (omega (arith, p .fewer, h0 .slots .most)) (omega (arith, p .fewer))
+            b (atCells + k) (omega (arith, p .fewer, h0 .slots .most)) (omega (arith, p .fewer))
                 ∙ p .rest k (omega arith) m .1,
           );
         }

@@ -8,6 +8,7 @@ use mathlib.Core.List.{List, []}
 use Prim.Native.Nat.{ℕ, zero, suc, _+_, _-_, _≤_, _<_}
 use native.Mathlib.Omega.{arith}
 use lib.ListN.{getD}
+use Rattle.buffers.specs.Map.{atLasts}
 use Rattle.matching.specs.Pairs.{same, touches}
 use Rattle.matching.proofs.Tests.{Test, pass, fail, eqT, ltT, isT, holds, passes}
 use Rattle.matching.proofs.Pairs.{Same}
@@ -21,7 +22,7 @@ told : (w1 w2 : List ℕ) {c to r : ℕ} → Last (store w1 w2) c to r → LastS
 told w1 w2 l = record { low = l .low; at = l .at; past = l .past }
 
 module _ {e : ℕ} {w1 w2 : List ℕ} (h : Holds e w1 w2) where
-  pub last-slot : {c r : ℕ} → c < 1024 → r ≡ getD w2 (5120 + c) 0 → LastSlot w1 c e r
+  pub last-slot : {c r : ℕ} → c < 1024 → r ≡ getD w2 (atLasts + c) 0 → LastSlot w1 c e r
   last-slot {c} {r} l q = rw (q ∙ h .slots .lasts c l) (told w1 w2 (last-is (store w1 w2) c e))
 
   pub slot-before : {c i r : ℕ} → i < e → touches c (lowOf w1 i) (highOf w1 i) ≡ true → r ≡ linkOf w1 i c

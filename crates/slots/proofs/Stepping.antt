@@ -10,6 +10,7 @@ use native.Mathlib.Omega.{arith}
 use lib.Dec.{eqb}
 use lib.ListN.{getD}
 use borrow.Author.Tests.{eq-eqb, ne-eqb, lt-ltb}
+use Rattle.buffers.specs.Map.{atSums}
 use Rattle.matching.specs.Pairs.{Points}
 use Rattle.matching.specs.Graph.{Graph, partners, degree, put}
 use Rattle.matching.proofs.Tests.{Test, pass, fail, eqT, holds}
@@ -153,10 +154,10 @@ module _ {e : ℕ} {w1 w2 : List ℕ} {c prev i : ℕ} (h : Holds e w1 w2) (lc :
   pub prev-low : prev < 1024
   prev-low = rw prev-is (other-low e s (h .slots) c i (j .below) has-c)
 
-  pub sum-enough : key prev i ≤ getD w2 (4096 + c) 0
+  pub sum-enough : key prev i ≤ getD w2 (atSums + c) 0
   sum-enough = go cells-are
     where
-      go : Same (lowOf w1 i) (highOf w1 i) prev c → key prev i ≤ getD w2 (4096 + c) 0
+      go : Same (lowOf w1 i) (highOf w1 i) prev c → key prev i ≤ getD w2 (atSums + c) 0
       go (inl k) = rw (k .0, k .1) (high-sum s e (h .slots) i (j .below) (j .live))
       go (inr k) = rw (k .0, k .1) (low-sum s e (h .slots) i (j .below) (j .live))
 
@@ -198,10 +199,10 @@ module _ {e : ℕ} {w1 w2 : List ℕ} {c prev i : ℕ} (h : Holds e w1 w2) (lc :
       not-prev q = apart-not (rw q (same-swap cells-are)) (there .0)
 
   pub step-next : degree 1024 (graphOf e w1) c ≡ 2 → {k : ℕ} → k ≡ key prev i → (r : Other)
-      → r .slot ≡ (getD w2 (4096 + c) 0 - k) % 16777216
-      → r .partner ≡ (getD w2 (4096 + c) 0 - k) / 16777216 % 4194304 → Next e w1 c prev r
+      → r .slot ≡ (getD w2 (atSums + c) 0 - k) % 16777216
+      → r .partner ≡ (getD w2 (atSums + c) 0 - k) / 16777216 % 4194304 → Next e w1 c prev r
   unfolding graph
   step-next d {k} q r es ep =
-      let k-is : getD w2 (4096 + c) 0 - k ≡ getD w2 (4096 + c) 0 - key (other s i c) i =
-      ap (λ (m : ℕ). getD w2 (4096 + c) 0 - m) (q ∙ ap (λ (x : ℕ). key x i) prev-is) in
+      let k-is : getD w2 (atSums + c) 0 - k ≡ getD w2 (atSums + c) 0 - key (other s i c) i =
+      ap (λ (m : ℕ). getD w2 (atSums + c) 0 - m) (q ∙ ap (λ (x : ℕ). key x i) prev-is) in
       next-of r (rw (es, ep) (sole-left e s (h .slots) c i (j .below) (j .live) has-c lc d k-is))

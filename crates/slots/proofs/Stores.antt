@@ -7,6 +7,7 @@ use Prim.Native.Nat.{ℕ, _+_, _-_, _≤_, _<_}
 use native.Mathlib.Omega.{arith}
 use lib.ListN.{length, getD, set, length-set}
 use lib.Seq.{getD-set-same, getD-set-other, set-getD}
+use Rattle.buffers.specs.Map.{trailRoom, atSums, atNames}
 use Rattle.slots.specs.Slots.{key, Added, Aside}
 
 -- ---- one store, two stores
@@ -36,19 +37,19 @@ module _ (w : List ℕ) (i v i′ v′ : ℕ) {w′ : List ℕ} (e : w′ ≡ se
 
 -- ---- words that are not the graph's
 
-aside-apart : {j : ℕ} → (j < 4096) ⊎ (6144 ≤ j) → (k : ℕ) → 4096 ≤ k → k < 6144 → j ≢ k
+aside-apart : {j : ℕ} → (j < trailRoom) ⊎ (atNames ≤ j) → (k : ℕ) → atSums ≤ k → k < atNames → j ≢ k
 aside-apart (inl l) k a b = omega arith
 aside-apart (inr l) k a b = omega arith
 
-pub aside-both : (w : List ℕ) (i v i′ v′ : ℕ) {w′ : List ℕ} → w′ ≡ set (set w i v) i′ v′ → (4096 ≤ i) × (i < 6144)
-    → (4096 ≤ i′) × (i′ < 6144) → Aside w w′
+pub aside-both : (w : List ℕ) (i v i′ v′ : ℕ) {w′ : List ℕ} → w′ ≡ set (set w i v) i′ v′ → (atSums ≤ i) × (i < atNames)
+    → (atSums ≤ i′) × (i′ < atNames) → Aside w w′
 aside-both w i v i′ v′ e a b j l =
     elsewhere-both w i v i′ v′ e j (aside-apart l i (a .0) (a .1)) (aside-apart l i′ (b .0) (b .1))
 
 pub aside-added : {w w′ : List ℕ} {i a b : ℕ} → Added w w′ i a b → a < b → b < 1024 → Aside w w′
 aside-added {w} {w′} {i} {a} {b} ad lt lb j l =
-    ad .others j (aside-apart l (4096 + a) (omega arith) (omega arith))
-    (aside-apart l (4096 + b) (omega arith) (omega arith))
+    ad .others j (aside-apart l (atSums + a) (omega arith) (omega arith))
+    (aside-apart l (atSums + b) (omega arith) (omega arith))
 
 pub aside-on : (w w′ w″ : List ℕ) → Aside w w′ → Aside w′ w″ → Aside w w″
 aside-on w w′ w″ a b j l = b j l ∙ a j l
@@ -57,19 +58,23 @@ aside-on w w′ w″ a b j l = b j l ∙ a j l
 
 module _ (w : List ℕ) (i a b : ℕ) (room : 8192 ≤ length w) (lt : a < b) (lb : b < 1024) {k m : ℕ} (ek : k ≡ key b i)
     (em : m ≡ key a i) {w₁ w₂ : List ℕ} where
-  pub added : w₁ ≡ set w (4096 + a) (getD w (4096 + a) 0 + k) → w₂ ≡ set w₁ (4096 + b) (getD w₁ (4096 + b) 0 + m)
+  pub added : w₁ ≡ set w (atSums + a) (getD w (atSums + a) 0 + k)
+      → w₂ ≡ set w₁ (atSums + b) (getD w₁ (atSums + b) 0 + m)
       → Added w w₂ i a b
   added p q = record {
-    low = omega (arith, elsewhere w₁ _ _ q (4096 + a) (omega arith), stored w _ _ p (omega arith));
-    high = omega (arith, stored w₁ _ _ q (omega (arith, as-long w _ _ p)), elsewhere w _ _ p (4096 + b) (omega arith));
+    low = omega (arith, elsewhere w₁ _ _ q (atSums + a) (omega arith), stored w _ _ p (omega arith));
+    high =
+        omega (arith, stored w₁ _ _ q (omega (arith, as-long w _ _ p)), elsewhere w _ _ p (atSums + b) (omega arith));
     others = λ j n o. elsewhere w₁ _ _ q j o ∙ elsewhere w _ _ p j n;
   }
 
-  pub taken : w₁ ≡ set w (4096 + a) (getD w (4096 + a) 0 - k) → w₂ ≡ set w₁ (4096 + b) (getD w₁ (4096 + b) 0 - m)
-      → key b i ≤ getD w (4096 + a) 0 → key a i ≤ getD w (4096 + b) 0 → Added w₂ w i a b
+  pub taken : w₁ ≡ set w (atSums + a) (getD w (atSums + a) 0 - k)
+      → w₂ ≡ set w₁ (atSums + b) (getD w₁ (atSums + b) 0 - m)
+      → key b i ≤ getD w (atSums + a) 0 → key a i ≤ getD w (atSums + b) 0 → Added w₂ w i a b
   taken p q ka kb = record {
-    low = omega (arith, elsewhere w₁ _ _ q (4096 + a) (omega arith), stored w _ _ p (omega arith));
-    high = omega (arith, stored w₁ _ _ q (omega (arith, as-long w _ _ p)), elsewhere w _ _ p (4096 + b) (omega arith));
+    low = omega (arith, elsewhere w₁ _ _ q (atSums + a) (omega arith), stored w _ _ p (omega arith));
+    high =
+        omega (arith, stored w₁ _ _ q (omega (arith, as-long w _ _ p)), elsewhere w _ _ p (atSums + b) (omega arith));
     others = λ j n o. sym (elsewhere w₁ _ _ q j o ∙ elsewhere w _ _ p j n);
   }
 

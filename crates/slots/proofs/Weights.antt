@@ -8,6 +8,7 @@ use mathlib.Core.List.{List}
 use Prim.Native.Nat.{ℕ, _+_, _≤_, _<_}
 use native.Mathlib.Omega.{arith}
 use lib.ListN.{length, getD, set}
+use Rattle.buffers.specs.Map.{atCells, atSums, atLasts}
 use Rattle.matching.specs.Pairs.{same}
 use Rattle.matching.specs.Graph.{put}
 use Rattle.matching.proofs.Tests.{Test, pass, fail, eqT}
@@ -117,15 +118,15 @@ module _ (w1 w2 w1′ w2′ : List ℕ) (e i k : ℕ) (h : Holds e w1 w2) (le : 
   abbrev b : ℕ
   b = highOf w1 i
 
-  cell-kept : (j : ℕ) → getD w1′ (4096 + j) 0 ≡ getD w1 (4096 + j) 0
-  cell-kept j = elsewhere w1 i k e1 (4096 + j) (omega (arith, h .slots .most))
+  cell-kept : (j : ℕ) → getD w1′ (atCells + j) 0 ≡ getD w1 (atCells + j) 0
+  cell-kept j = elsewhere w1 i k e1 (atCells + j) (omega (arith, h .slots .most))
 
   now-k : getD w1′ i 0 ≡ k
   now-k = stored w1 i k e1 (omega (arith, h .room1, h .slots .most))
 
-  is-reweighed : ((c : ℕ) → c < 1024 → getD w2′ (5120 + c) 0 ≡ getD w2 (5120 + c) 0)
+  is-reweighed : ((c : ℕ) → c < 1024 → getD w2′ (atLasts + c) 0 ≡ getD w2 (atLasts + c) 0)
       → ((c : ℕ) → c < 1024
-      → getD w2′ (4096 + c) 0 + keyAt c (getD w1 i 0) a b i ≡ getD w2 (4096 + c) 0 + keyAt c k a b i)
+      → getD w2′ (atSums + c) 0 + keyAt c (getD w1 i 0) a b i ≡ getD w2 (atSums + c) 0 + keyAt c k a b i)
       → Reweighed (store w1 w2) (store w1′ w2′) i
   is-reweighed f g = record {
     weights = elsewhere w1 i k e1;
@@ -156,7 +157,7 @@ module _ (w1 w2 w1′ w2′ : List ℕ) (e i k : ℕ) (h : Holds e w1 w2) (le : 
       }
     where
       sum : (c : ℕ) → c < 1024 → {q r : Bool} → Test (c ≡ a) (c ≢ a) q → Test (c ≡ b) (c ≢ b) r
-          → getD w2′ (4096 + c) 0 + keyAt c (getD w1 i 0) a b i ≡ getD w2 (4096 + c) 0 + keyAt c k a b i
+          → getD w2′ (atSums + c) 0 + keyAt c (getD w1 i 0) a b i ≡ getD w2 (atSums + c) 0 + keyAt c k a b i
       sum c l (pass q) y =
           rw q (omega (arith, ad .low, key-low a (getD w1 i 0) a b i pos refl, key-dead a k a b i z))
       sum c l (fail n) (pass r) =
@@ -171,14 +172,14 @@ module _ (w1 w2 w1′ w2′ : List ℕ) (e i k : ℕ) (h : Holds e w1 w2) (le : 
       sum c l (fail n) (fail m) =
           omega (
             arith,
-            ad .others (4096 + c) (λ q. n (omega arith)) (λ q. m (omega arith)),
+            ad .others (atSums + c) (λ q. n (omega arith)) (λ q. m (omega arith)),
             key-dead c k a b i z,
             key-off c (getD w1 i 0) a b i (λ q. n (sym q)) (λ q. m (sym q)),
           )
 
       gone : Reweighed (store w1 w2) (store w1′ w2′) i
       gone =
-          is-reweighed (λ c l. sym (ad .others (5120 + c) (omega arith) (omega arith)))
+          is-reweighed (λ c l. sym (ad .others (atLasts + c) (omega arith) (omega arith)))
           (λ c l. sum c l (eqT c a) (eqT c b))
 
   pub lessen-holds : w2′ ≡ w2 → 0 < k → Holds e w1′ w2′

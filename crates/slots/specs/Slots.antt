@@ -1,10 +1,10 @@
 -- The working graph in two lent buffers, as append-only slots. Nobody has to believe what stands here: callers go by
 -- `graphOf`, the graph that the buffers hold, and by `Holds`, which every function keeps and nobody else looks into.
 --
--- First buffer: the weight of slot i at i, 0 where its pair is gone; at 4,096 + i its cells a < b and two links.
--- Second buffer: from 4,096 on for each cell the sum of the keys of its live slots, from 5,120 on its last slot. A
--- slot is named by its number + 1, and 0 is none, so that cleared buffers hold the empty graph. The link of a slot for
--- one of its cells is the last slot before it that has the cell: a cell's slots are met in falling order.
+-- First buffer: the weight of slot i at i, 0 where its pair is gone; at `atCells` + i its cells a < b and two links.
+-- Second buffer: from `atSums` on for each cell the sum of the keys of its live slots, from `atLasts` on its last slot.
+-- A slot is named by its number + 1, and 0 is none, so that cleared buffers hold the empty graph. The link of a slot
+-- for one of its cells is the last slot before it that has the cell: a cell's slots are met in falling order.
 use mathlib.Core.Path.{_≡_}
 use mathlib.Core.Logic.{_⊎_, _≢_}
 use mathlib.Core.Bool.{true, cond}
@@ -12,6 +12,7 @@ use mathlib.Core.List.{List, []}
 use Prim.Native.Nat.{ℕ, zero, suc, _+_, _*_, _-_, _/_, _%_, _≤_, _<_}
 use lib.Dec.{eqb, ltb}
 use lib.ListN.{length, getD}
+use Rattle.buffers.specs.Map.{atCells, trailRoom, atSums, atLasts, atNames}
 use Rattle.matching.specs.Pairs.{Points, ι, same, touches}
 
 -- The sum of f below e.
@@ -40,12 +41,12 @@ pub record Store : Type 0 where
 abbrev pub store : List ℕ → List ℕ → Store
 store w1 w2 = record {
   weight = λ i. getD w1 i 0;
-  low = λ i. getD w1 (4096 + i) 0 % 1024;
-  high = λ i. getD w1 (4096 + i) 0 / 1024 % 1024;
-  lowLink = λ i. getD w1 (4096 + i) 0 / 1048576 % 8192;
-  highLink = λ i. getD w1 (4096 + i) 0 / 8589934592;
-  sums = λ c. getD w2 (4096 + c) 0;
-  lasts = λ c. getD w2 (5120 + c) 0;
+  low = λ i. getD w1 (atCells + i) 0 % 1024;
+  high = λ i. getD w1 (atCells + i) 0 / 1024 % 1024;
+  lowLink = λ i. getD w1 (atCells + i) 0 / 1048576 % 8192;
+  highLink = λ i. getD w1 (atCells + i) 0 / 8589934592;
+  sums = λ c. getD w2 (atSums + c) 0;
+  lasts = λ c. getD w2 (atLasts + c) 0;
 }
 
 -- How many of the slots below e are live.
@@ -80,10 +81,10 @@ abbrev pub graphOf : ℕ → List ℕ → Points
 graphOf e w1 = graph (store w1 []) e
 
 abbrev pub lowOf : List ℕ → ℕ → ℕ
-lowOf w1 i = getD w1 (4096 + i) 0 % 1024
+lowOf w1 i = getD w1 (atCells + i) 0 % 1024
 
 abbrev pub highOf : List ℕ → ℕ → ℕ
-highOf w1 i = getD w1 (4096 + i) 0 / 1024 % 1024
+highOf w1 i = getD w1 (atCells + i) 0 / 1024 % 1024
 
 -- Slot i is live and joins x and y.
 pub record Joins (e : ℕ) (w1 : List ℕ) (i x y : ℕ) : Type 0 where
@@ -94,17 +95,17 @@ pub record Joins (e : ℕ) (w1 : List ℕ) (i x y : ℕ) : Type 0 where
 -- The link of slot i for a cell that it has.
 abbrev pub linkOf : List ℕ → ℕ → ℕ → ℕ
 linkOf w1 i c =
-    cond (eqb (lowOf w1 i) c) (getD w1 (4096 + i) 0 / 1048576 % 8192) (getD w1 (4096 + i) 0 / 8589934592)
+    cond (eqb (lowOf w1 i) c) (getD w1 (atCells + i) 0 / 1048576 % 8192) (getD w1 (atCells + i) 0 / 8589934592)
 
 -- The keys of slot i of a, b stand in the sums of w′ and not in those of w; nothing else changed.
 pub record Added (w w′ : List ℕ) (i a b : ℕ) : Type 0 where
-  pub low : getD w′ (4096 + a) 0 ≡ getD w (4096 + a) 0 + key b i
-  pub high : getD w′ (4096 + b) 0 ≡ getD w (4096 + b) 0 + key a i
-  pub others : (j : ℕ) → j ≢ 4096 + a → j ≢ 4096 + b → getD w′ j 0 ≡ getD w j 0
+  pub low : getD w′ (atSums + a) 0 ≡ getD w (atSums + a) 0 + key b i
+  pub high : getD w′ (atSums + b) 0 ≡ getD w (atSums + b) 0 + key a i
+  pub others : (j : ℕ) → j ≢ atSums + a → j ≢ atSums + b → getD w′ j 0 ≡ getD w j 0
 
 -- Words of the second buffer that are not the graph's (the trail, the slip) did not change.
 abbrev pub Aside : List ℕ → List ℕ → Type 0
-Aside w w′ = (j : ℕ) → (j < 4096) ⊎ (6144 ≤ j) → getD w′ j 0 ≡ getD w j 0
+Aside w w′ = (j : ℕ) → (j < trailRoom) ⊎ (atNames ≤ j) → getD w′ j 0 ≡ getD w j 0
 
 -- What a change promises: the buffers hold the graph g in e slots, and nothing aside changed.
 pub record Changed (e : ℕ) (g : Points) (w1′ w2 w2′ : List ℕ) : Type 0 where
@@ -118,8 +119,8 @@ lessAll u p g a b = cond (touches u a b) (g a b - p) (g a b)
 
 -- The words of other slots did not change.
 abbrev pub Beyond : ℕ → List ℕ → List ℕ → Type 0
-Beyond e w w′ = (k : ℕ) → k ≢ e → k ≢ 4096 + e → getD w′ k 0 ≡ getD w k 0
+Beyond e w w′ = (k : ℕ) → k ≢ e → k ≢ atCells + e → getD w′ k 0 ≡ getD w k 0
 
 -- The cells below n have no slot.
 abbrev pub NoSlots : ℕ → List ℕ → Type 0
-NoSlots n w = (c : ℕ) → c < n → (getD w (4096 + c) 0 ≡ 0) × (getD w (5120 + c) 0 ≡ 0)
+NoSlots n w = (c : ℕ) → c < n → (getD w (atSums + c) 0 ≡ 0) × (getD w (atLasts + c) 0 ≡ 0)

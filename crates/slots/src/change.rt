@@ -1,5 +1,6 @@
 // Inner: changes the graph that the buffers hold.
 use crate::words;
+use buffers::map;
 ghost use mathlib.Core.Path.{_≡_};
 ghost use mathlib.Core.List.{_∷_, []};
 ghost use Prim.Native.Nat.{_+_, _-_, _<_, _≤_};
@@ -16,8 +17,8 @@ pub fn append(w1: &mut [u64], w2: &mut [u64], e: usize, a: usize, b: usize, w: u
     ensures { λ _. ⌜ Changed (e + 1) (put a b w (graphOf e (now (w1 .entry))))
         (now (w1 .exit)) (now (w2 .entry)) (now (w2 .exit)) × Beyond e (now (w1 .entry)) (now (w1 .exit)) ⌝ }
 {
-    let low_link = w2[words::LASTS + a];
-    let high_link = w2[words::LASTS + b];
+    let low_link = w2[map::LASTS + a];
+    let high_link = w2[map::LASTS + b];
     let x = words::cell_word(a, b, low_link, high_link);
     words::set_slot(w1, e, w, x);
     words::set_lasts(w2, e, a, b);
@@ -31,7 +32,7 @@ pub fn kill(w1: &mut [u64], w2: &mut [u64], e: usize, i: usize)
         (put (lowOf (now (w1 .entry)) i) (highOf (now (w1 .entry)) i) 0 (graphOf e (now (w1 .entry))))
         (now (w1 .exit)) (now (w2 .entry)) (now (w2 .exit)) × (now (w1 .exit) ≡ set (now (w1 .entry)) i 0) ⌝ }
 {
-    let x = w1[words::CELL_WORDS + i];
+    let x = w1[map::CELL_WORDS + i];
     let a = (x % 1024) as usize;
     let b = (x / 1024 % 1024) as usize;
     w1[i] = 0;
@@ -60,7 +61,7 @@ pub fn lessen_all(w1: &mut [u64], w2: &mut [u64], e: usize, u: usize, p: u64)
     ensures { λ _. ⌜ Changed e (lessAll u p (graphOf e (now (w1 .entry))))
         (now (w1 .exit)) (now (w2 .entry)) (now (w2 .exit)) ⌝ }
 {
-    let mut i = w2[words::LASTS + u] as usize;
+    let mut i = w2[map::LASTS + u] as usize;
     while i != 0 {
         i -= 1;
         lessen(w1, w2, e, i, p);
@@ -88,8 +89,8 @@ fn no_slots(w2: &mut [u64])
 {
     let mut c = 0;
     while c < 1024 {
-        w2[words::SUMS + c] = 0;
-        w2[words::LASTS + c] = 0;
+        w2[map::SUMS + c] = 0;
+        w2[map::LASTS + c] = 0;
         c += 1;
     }
 }
@@ -105,7 +106,7 @@ pub fn pack(w1: &mut [u64], w2: &mut [u64], e: usize) -> usize
     let mut i = 0;
     while i < e {
         let w = w1[i];
-        let x = w1[words::CELL_WORDS + i];
+        let x = w1[map::CELL_WORDS + i];
         i += 1;
         if w > 0 {
             append(

@@ -1,5 +1,6 @@
 // Inner: reads the graph that the buffers hold.
 use crate::words;
+use buffers::map;
 ghost use mathlib.Core.Path.{_≡_};
 ghost use mathlib.Core.Bool.{true};
 ghost use Prim.Native.Nat.{_+_, _-_, _<_};
@@ -20,7 +21,7 @@ pub fn degree(w1: &[u64], w2: &[u64], e: usize, c: usize) -> u64
     requires { ⌜ (Holds e (now w1) (now w2)) × (c < 1024) ⌝ }
     ensures { λ r. ⌜ r ≡ length (partners 1024 (graphOf e (now (w1 .entry))) c) ⌝ }
 {
-    w2[words::SUMS + c] / 70368744177664
+    w2[map::SUMS + c] / 70368744177664
 }
 
 // The only partner of a cell of degree one, with its slot.
@@ -28,7 +29,7 @@ pub fn only(w1: &[u64], w2: &[u64], e: usize, c: usize) -> Other
     requires { ⌜ (Holds e (now w1) (now w2)) × (c < 1024) × (length (partners 1024 (graphOf e (now w1)) c) ≡ 1) ⌝ }
     ensures { λ r. ⌜ Only e (now (w1 .entry)) c r ⌝ }
 {
-    let k = w2[words::SUMS + c];
+    let k = w2[map::SUMS + c];
     Other {
         partner: (k / 16777216 % 4194304) as usize,
         slot: (k % 16777216) as usize,
@@ -41,7 +42,7 @@ pub fn step_on(w1: &[u64], w2: &[u64], e: usize, c: usize, prev: usize, i: usize
         × (length (partners 1024 (graphOf e (now w1)) c) ≡ 2) ⌝ }
     ensures { λ r. ⌜ Next e (now (w1 .entry)) c prev r ⌝ }
 {
-    let t = w2[words::SUMS + c];
+    let t = w2[map::SUMS + c];
     let k = t - words::key_of(prev, i);
     Other {
         partner: (k / 16777216 % 4194304) as usize,
@@ -54,7 +55,7 @@ pub fn last_slot(w1: &[u64], w2: &[u64], e: usize, c: usize) -> usize
     requires { ⌜ (Holds e (now w1) (now w2)) × (c < 1024) ⌝ }
     ensures { λ r. ⌜ LastSlot (now (w1 .entry)) c e r ⌝ }
 {
-    w2[words::LASTS + c] as usize
+    w2[map::LASTS + c] as usize
 }
 
 // The last slot of c before slot i, which has c: its number + 1, or 0 where there is none.
@@ -70,7 +71,7 @@ pub fn partner(w1: &[u64], w2: &[u64], e: usize, c: usize, i: usize) -> usize
     requires { ⌜ (Holds e (now w1) (now w2)) × SlotOf e (now w1) c i ⌝ }
     ensures { λ r. ⌜ Joins e (now (w1 .entry)) i c r × (r < 1024) ⌝ }
 {
-    let x = w1[words::CELL_WORDS + i];
+    let x = w1[map::CELL_WORDS + i];
     (x % 1024) as usize + (x / 1024 % 1024) as usize - c
 }
 
@@ -79,10 +80,10 @@ pub fn find(w1: &[u64], w2: &[u64], e: usize, u: usize, v: usize) -> usize
     requires { ⌜ (Holds e (now w1) (now w2)) × (u < 1024) × (v < 1024) ⌝ }
     ensures { λ r. ⌜ FindSlot e (now (w1 .entry)) u v r ⌝ }
 {
-    let mut i = w2[words::LASTS + u] as usize;
+    let mut i = w2[map::LASTS + u] as usize;
     while i != 0 {
         let at = i - 1;
-        let x = w1[words::CELL_WORDS + at];
+        let x = w1[map::CELL_WORDS + at];
         if w1[at] != 0 {
             if (x % 1024 + x / 1024 % 1024) as usize == u + v {
                 return i;

@@ -1,14 +1,10 @@
 // Inner: single words of the buffers.
+use buffers::map;
 ghost use mathlib.Core.Path.{_≡_};
 ghost use Prim.Native.Nat.{_+_, _*_, _-_, _<_, _≤_};
 ghost use lib.ListN.{length, getD, set};
+ghost use Rattle.buffers.specs.Map.{atCells, atSums, atLasts};
 ghost use Rattle.slots.specs.Slots.{key, linkOf, Added};
-
-pub const CELL_WORDS: usize = 4096;
-
-pub const SUMS: usize = 4096;
-
-pub const LASTS: usize = 5120;
 
 const KEY_ONE: u64 = 70368744177664;
 
@@ -40,7 +36,7 @@ pub fn link(w1: &[u64], i: usize, c: usize) -> usize
     requires { ⌜ (8192 ≤ length (now w1)) × (i < 4096) ⌝ }
     ensures { λ r. ⌜ r ≡ linkOf (now (w1 .entry)) i c ⌝ }
 {
-    let x = w1[CELL_WORDS + i];
+    let x = w1[map::CELL_WORDS + i];
     if (x % HIGH_CELL) as usize == c {
         return (x / LOW_LINK % 8192) as usize;
     }
@@ -49,26 +45,27 @@ pub fn link(w1: &[u64], i: usize, c: usize) -> usize
 
 // The key k goes into the sum of c.
 fn add_to(w2: &mut [u64], c: usize, k: u64)
-    requires { ⌜ (c < 1024) × (8192 ≤ length (now w2)) × (getD (now w2) (4096 + c) 0 + k < 18446744073709551616) ⌝ }
-    ensures { λ _. ⌜ now (w2 .exit) ≡ set (now (w2 .entry)) (4096 + c) (getD (now (w2 .entry)) (4096 + c) 0 + k) ⌝ }
+    requires { ⌜ (c < 1024) × (8192 ≤ length (now w2)) × (getD (now w2) (atSums + c) 0 + k < 18446744073709551616) ⌝ }
+    ensures { λ _. ⌜ now (w2 .exit) ≡ set (now (w2 .entry)) (atSums + c) (getD (now (w2 .entry)) (atSums + c) 0 + k) ⌝ }
 {
-    let t = w2[SUMS + c];
-    w2[SUMS + c] = t + k;
+    let t = w2[map::SUMS + c];
+    w2[map::SUMS + c] = t + k;
 }
 
 // The key k goes from the sum of c.
 fn take_from(w2: &mut [u64], c: usize, k: u64)
-    requires { ⌜ (c < 1024) × (8192 ≤ length (now w2)) × (k ≤ getD (now w2) (4096 + c) 0) ⌝ }
-    ensures { λ _. ⌜ now (w2 .exit) ≡ set (now (w2 .entry)) (4096 + c) (getD (now (w2 .entry)) (4096 + c) 0 - k) ⌝ }
+    requires { ⌜ (c < 1024) × (8192 ≤ length (now w2)) × (k ≤ getD (now w2) (atSums + c) 0) ⌝ }
+    ensures { λ _. ⌜ now (w2 .exit) ≡ set (now (w2 .entry)) (atSums + c) (getD (now (w2 .entry)) (atSums + c) 0 - k) ⌝ }
 {
-    let t = w2[SUMS + c];
-    w2[SUMS + c] = t - k;
+    let t = w2[map::SUMS + c];
+    w2[map::SUMS + c] = t - k;
 }
 
 // The keys of slot i go into the sums of its cells.
 pub fn add_keys(w2: &mut [u64], i: usize, a: usize, b: usize)
     requires { ⌜ (8192 ≤ length (now w2)) × (i < 4096) × (a < b) × (b < 1024)
-        × (getD (now w2) (4096 + a) 0 < 9223372036854775808) × (getD (now w2) (4096 + b) 0 < 9223372036854775808) ⌝ }
+        × (getD (now w2) (atSums + a) 0 < 9223372036854775808)
+        × (getD (now w2) (atSums + b) 0 < 9223372036854775808) ⌝ }
     ensures { λ _. ⌜ Added (now (w2 .entry)) (now (w2 .exit)) i a b ⌝ }
 {
     add_to(w2, a, key_of(b, i));
@@ -78,7 +75,7 @@ pub fn add_keys(w2: &mut [u64], i: usize, a: usize, b: usize)
 // The keys of slot i go from the sums of its cells.
 pub fn take_keys(w2: &mut [u64], i: usize, a: usize, b: usize)
     requires { ⌜ (8192 ≤ length (now w2)) × (i < 4096) × (a < b) × (b < 1024)
-        × (key b i ≤ getD (now w2) (4096 + a) 0) × (key a i ≤ getD (now w2) (4096 + b) 0) ⌝ }
+        × (key b i ≤ getD (now w2) (atSums + a) 0) × (key a i ≤ getD (now w2) (atSums + b) 0) ⌝ }
     ensures { λ _. ⌜ Added (now (w2 .exit)) (now (w2 .entry)) i a b ⌝ }
 {
     take_from(w2, a, key_of(b, i));
@@ -88,17 +85,17 @@ pub fn take_keys(w2: &mut [u64], i: usize, a: usize, b: usize)
 // Slot i is the last of the cells a and b.
 pub fn set_lasts(w2: &mut [u64], i: usize, a: usize, b: usize)
     requires { ⌜ (8192 ≤ length (now w2)) × (i < 4096) × (a < 1024) × (b < 1024) ⌝ }
-    ensures { λ _. ⌜ now (w2 .exit) ≡ set (set (now (w2 .entry)) (5120 + a) (i + 1)) (5120 + b) (i + 1) ⌝ }
+    ensures { λ _. ⌜ now (w2 .exit) ≡ set (set (now (w2 .entry)) (atLasts + a) (i + 1)) (atLasts + b) (i + 1) ⌝ }
 {
-    w2[LASTS + a] = i as u64 + 1;
-    w2[LASTS + b] = i as u64 + 1;
+    w2[map::LASTS + a] = i as u64 + 1;
+    w2[map::LASTS + b] = i as u64 + 1;
 }
 
 // Slot i has the weight w and the cell word x.
 pub fn set_slot(w1: &mut [u64], i: usize, w: u64, x: u64)
     requires { ⌜ (8192 ≤ length (now w1)) × (i < 4096) ⌝ }
-    ensures { λ _. ⌜ now (w1 .exit) ≡ set (set (now (w1 .entry)) i w) (4096 + i) x ⌝ }
+    ensures { λ _. ⌜ now (w1 .exit) ≡ set (set (now (w1 .entry)) i w) (atCells + i) x ⌝ }
 {
     w1[i] = w;
-    w1[CELL_WORDS + i] = x;
+    w1[map::CELL_WORDS + i] = x;
 }

@@ -1,7 +1,7 @@
--- The cells that have pairs and the points between them, gathered for crate sets. In order: words from 7,168 on, which
--- are not the graph's (`holds-front`), and are set to zero; one cell more (`with-in`, `with-out`), how many cells there
--- are, and that they ascend; the cells are stored one by one (`cells-none`, `cells-in`, `cells-out`, `gathers-all`);
--- the points of a pair; the points of a row, and the rows. Assumes nothing.
+-- The cells that have pairs and the points between them, gathered for crate sets. In order: words from `atPoints` on,
+-- which are not the graph's (`holds-front`), and are set to zero; one cell more (`with-in`, `with-out`), how many cells
+-- there are, and that they ascend; the cells are stored one by one (`cells-none`, `cells-in`, `cells-out`,
+-- `gathers-all`); the points of a pair; the points of a row, and the rows. Assumes nothing.
 use mathlib.Core.Path.{_≡_, refl, sym, ap, _∙_}
 use mathlib.Core.Logic.{_⊎_, inl, inr, _≢_}
 use mathlib.Core.Bool.{Bool, true, false, cond}
@@ -13,6 +13,8 @@ use lib.Dec.{ltb}
 use lib.ListN.{length, getD, set, length-append, length-set, List·getD-append}
 use lib.Seq.{getD-set-same, getD-set-other, getD-at}
 use borrow.Author.Tests.{lt-ltb, le-ltb}
+use Rattle.cellfile.specs.Words.{pointsRoom}
+use Rattle.buffers.specs.Map.{atSums, atLasts, atPoints, atPlaces}
 use Rattle.matching.specs.Pairs.{Points, ι}
 use Rattle.matching.specs.Graph.{Graph, partners, degree, paired, cellsLeft}
 use Rattle.matching.proofs.Tests.{Test, pass, fail, eqT, ltT}
@@ -27,12 +29,12 @@ use Rattle.matching.specs.Solve.{withPairs}
 use Rattle.solving.specs.Gathered.{cellIn, pointsIn, FrontKept, Blank, CellsIn, Gathers, PlacesThere, RowIn}
 use Rattle.solving.specs.Gathered.{RowOnly, PointsIn}
 
--- ---- words from 7,168 on
+-- ---- words from `atPoints` on
 
 pub front-none : {w2 : List ℕ} → FrontKept w2 w2
 front-none = record { long = refl; same = λ j l. refl }
 
-pub front-set : {w2 w2′ : List ℕ} → FrontKept w2 w2′ → (t v : ℕ) → 7168 ≤ t → FrontKept w2 (set w2′ t v)
+pub front-set : {w2 w2′ : List ℕ} → FrontKept w2 w2′ → (t v : ℕ) → atPoints ≤ t → FrontKept w2 (set w2′ t v)
 front-set {w2} {w2′} f t v m = record {
   long = length-set w2′ t v ∙ f .long;
   same = λ j l. getD-set-other w2′ t j v 0 (λ q. omega arith) ∙ f .same j l;
@@ -55,8 +57,8 @@ holds-front {e} {w1} {w2} {w2′} h f = record {
       h .slots .links i m .0 ∙ lasts-kept (lowOf w1 i) i,
       h .slots .links i m .1 ∙ lasts-kept (highOf w1 i) i,
     );
-    sums = λ c m. f .same (4096 + c) (omega arith) ∙ h .slots .sums c m;
-    lasts = λ c m. f .same (5120 + c) (omega arith) ∙ h .slots .lasts c m ∙ lasts-kept c e;
+    sums = λ c m. f .same (atSums + c) (omega arith) ∙ h .slots .sums c m;
+    lasts = λ c m. f .same (atLasts + c) (omega arith) ∙ h .slots .lasts c m ∙ lasts-kept c e;
   };
 }
   where
@@ -65,14 +67,14 @@ holds-front {e} {w1} {w2} {w2′} h f = record {
 
 -- the words for crate sets below i are zero
 abbrev pub ZeroTo : ℕ → List ℕ → Type 0
-ZeroTo i w2 = (m : ℕ) → 7168 + m < i → getD w2 (7168 + m) 0 ≡ 0
+ZeroTo i w2 = (m : ℕ) → atPoints + m < i → getD w2 (atPoints + m) 0 ≡ 0
 
 pub zero-more : (i : ℕ) (w2 : List ℕ) → i < length w2 → ZeroTo i w2 → ZeroTo (i + 1) (set w2 i 0)
-zero-more i w2 l z m b = go (eqT (7168 + m) i)
+zero-more i w2 l z m b = go (eqT (atPoints + m) i)
   where
-    go : {t : Bool} → Test (7168 + m ≡ i) (7168 + m ≢ i) t → getD (set w2 i 0) (7168 + m) 0 ≡ 0
+    go : {t : Bool} → Test (atPoints + m ≡ i) (atPoints + m ≢ i) t → getD (set w2 i 0) (atPoints + m) 0 ≡ 0
     go (pass e) = rw e (getD-set-same w2 i 0 0 l)
-    go (fail d) = getD-set-other w2 i (7168 + m) 0 0 d ∙ z m (omega (arith, d))
+    go (fail d) = getD-set-other w2 i (atPoints + m) 0 0 d ∙ z m (omega (arith, d))
 
 -- ---- the cells that have pairs
 
@@ -191,7 +193,7 @@ module _ {n : ℕ} {w : Points} {w2 : List ℕ} where
     where
       at : (i : ℕ) → i < 12 → cellIn w2 i ≡ 0
       at i l =
-          (let e : 7312 + i ≡ 7168 + (144 + i) = omega arith in
+          (let e : atPlaces + i ≡ atPoints + (144 + i) = omega arith in
           ap (λ m. getD w2 m 0) e ∙ b (144 + i) (omega arith))
 
   module _ {c k : ℕ} (g : CellsIn n w w2 c k) where
@@ -204,26 +206,26 @@ module _ {n : ℕ} {w : Points} {w2 : List ℕ} where
       blank = g .blank;
     }
 
-    pub cells-in : 0 < degree n w c → k < 12 → 8192 ≤ length w2 → CellsIn n w (set w2 (7312 + k) c) (c + 1) (k + 1)
+    pub cells-in : 0 < degree n w c → k < 12 → 8192 ≤ length w2 → CellsIn n w (set w2 (atPlaces + k) c) (c + 1) (k + 1)
     cells-in l m room = record {
       few = omega arith;
       count = omega (arith, g .count, ap length (with-in n w c l), length-append (withPairs n w c) (c ∷ []));
       cells = λ i q. at i q (eqT i k) ∙ ap (λ cs. getD cs i 0) (sym (with-in n w c l));
-      none = λ i a b. kept (7312 + i) (λ q. omega arith) ∙ g .none i (omega arith) b;
-      blank = λ i a. kept (7168 + i) (λ q. omega arith) ∙ g .blank i a;
+      none = λ i a b. kept (atPlaces + i) (λ q. omega arith) ∙ g .none i (omega arith) b;
+      blank = λ i a. kept (atPoints + i) (λ q. omega arith) ∙ g .blank i a;
     }
       where
-        kept : (j : ℕ) → j ≢ 7312 + k → getD (set w2 (7312 + k) c) j 0 ≡ getD w2 j 0
-        kept j d = getD-set-other w2 (7312 + k) j c 0 d
+        kept : (j : ℕ) → j ≢ atPlaces + k → getD (set w2 (atPlaces + k) c) j 0 ≡ getD w2 j 0
+        kept j d = getD-set-other w2 (atPlaces + k) j c 0 d
 
         at : (i : ℕ) → i < k + 1 → {t : Bool} → Test (i ≡ k) (i ≢ k) t
-            → cellIn (set w2 (7312 + k) c) i ≡ getD (withPairs n w c ++ c ∷ []) i 0
+            → cellIn (set w2 (atPlaces + k) c) i ≡ getD (withPairs n w c ++ c ∷ []) i 0
         at i q (pass e) =
-            rw e (getD-set-same w2 (7312 + k) c 0 (omega arith)
+            rw e (getD-set-same w2 (atPlaces + k) c 0 (omega arith)
             ∙ sym (getD-at (withPairs n w c) c [] 0 k (sym (g .count))))
         at i q (fail d) =
             (let b : i < k = omega (arith, d) in
-            kept (7312 + i) (λ z. d (omega arith)) ∙ g .cells i b
+            kept (atPlaces + i) (λ z. d (omega arith)) ∙ g .cells i b
             ∙ sym (List·getD-append (withPairs n w c) (c ∷ []) 0 i (omega (arith, g .count))))
 
     pub cells-crowded : 0 < degree n w c → 12 ≤ k → c < n → 12 < cellsLeft n w
@@ -272,36 +274,37 @@ row-none p = (
 
 module _ {i : ℕ} {w2 w2′ : List ℕ} (l : i < 12) (o : RowOnly i w2 w2′) where
   pub row-cells : (j : ℕ) → cellIn w2′ j ≡ cellIn w2 j
-  row-cells j = o .kept (7312 + j) (inr (omega arith))
+  row-cells j = o .kept (atPlaces + j) (inr (omega arith))
 
   pub row-front : FrontKept w2 w2′
   row-front = record { long = o .long; same = λ j m. o .kept j (inl (omega arith)) }
 
   module _ {e : ℕ} {w1 : List ℕ} where
     pub row-more : {j v : ℕ} → j < 12 → 8192 ≤ length w2 → RowIn e j w1 w2′ i
-        → v ≡ graphOf e w1 (cellIn w2 i) (cellIn w2′ j) → ((a b : ℕ) → graphOf e w1 a b < 17592186044416)
-        → RowIn e (j + 1) w1 (set w2′ (7168 + (12 * i + j)) v) i × RowOnly i w2 (set w2′ (7168 + (12 * i + j)) v)
+        → v ≡ graphOf e w1 (cellIn w2 i) (cellIn w2′ j) → ((a b : ℕ) → graphOf e w1 a b < pointsRoom)
+        → RowIn e (j + 1) w1 (set w2′ (atPoints + (12 * i + j)) v) i
+        × RowOnly i w2 (set w2′ (atPoints + (12 * i + j)) v)
     row-more {j} {v} m room r q s = (
       record { points = λ h b. at h b (eqT h j) },
       record {
         long = length-set w2′ t v ∙ o .long;
         kept = λ h z. off h (beyond h z) ∙ o .kept h z;
-        light = λ h b. small h b (eqT (7168 + h) t);
+        light = λ h b. small h b (eqT (atPoints + h) t);
       },
     )
       where
         t : ℕ
-        t = 7168 + (12 * i + j)
+        t = atPoints + (12 * i + j)
 
         off : (h : ℕ) → h ≢ t → getD (set w2′ t v) h 0 ≡ getD w2′ h 0
         off h d = getD-set-other w2′ t h v 0 d
 
-        beyond : (h : ℕ) → (h < 7168 + 12 * i) ⊎ (7180 + 12 * i ≤ h) → h ≢ t
+        beyond : (h : ℕ) → (h < atPoints + 12 * i) ⊎ (atPoints + 12 * i + 12 ≤ h) → h ≢ t
         beyond h (inl z) = λ y. omega arith
         beyond h (inr z) = λ y. omega arith
 
         cell : (h : ℕ) → cellIn (set w2′ t v) h ≡ cellIn w2′ h
-        cell h = off (7312 + h) (λ y. omega arith)
+        cell h = off (atPlaces + h) (λ y. omega arith)
 
         stored : getD (set w2′ t v) t 0 ≡ v
         stored = getD-set-same w2′ t v 0 (omega (arith, o .long))
@@ -316,12 +319,12 @@ module _ {i : ℕ} {w2 w2′ : List ℕ} (l : i < 12) (o : RowOnly i w2 w2′) w
         at h b (pass y) = rw y here
         at h b (fail d) =
             rw (cell i, cell h)
-            (off (7168 + (12 * i + h)) (λ y. d (omega arith)) ∙ r .points h (omega (arith, d)))
+            (off (atPoints + (12 * i + h)) (λ y. d (omega arith)) ∙ r .points h (omega (arith, d)))
 
-        small : (h : ℕ) → h < 144 → {u : Bool} → Test (7168 + h ≡ t) (7168 + h ≢ t) u
-            → getD (set w2′ t v) (7168 + h) 0 < 17592186044416
+        small : (h : ℕ) → h < 144 → {u : Bool} → Test (atPoints + h ≡ t) (atPoints + h ≢ t) u
+            → getD (set w2′ t v) (atPoints + h) 0 < pointsRoom
         small h b (pass y) = rw y (omega (arith, stored, q, s (cellIn w2 i) (cellIn w2′ j)))
-        small h b (fail d) = rw (off (7168 + h) d) (o .light h b)
+        small h b (fail d) = rw (off (atPoints + h) d) (o .light h b)
 
 -- ---- the rows
 
@@ -360,7 +363,7 @@ module _ {e k : ℕ} {w1 w2 : List ℕ} (p : PlacesThere e k w1 w2) where
         at h b (fail d) = record {
           points = λ j m.
               rw (row-cells low o h, row-cells low o j)
-              (o .kept (7168 + (12 * h + j)) (inl (omega (arith, d, p .few)))
+              (o .kept (atPoints + (12 * h + j)) (inl (omega (arith, d, p .few)))
               ∙ g .rows h (omega (arith, d)) .points j m);
         }
 

@@ -13,6 +13,7 @@ use lib.ListN.{length, getD, take, drop, length-map, length-drop, length-replica
 use lib.Seq.{take-suc, take-all, length-take-le, getD-take, getD-drop}
 use lib.Pow.{pow-pos, pow-mono, ones-split, ones-lt, high}
 use borrow.Author.Tests.{eq-eqb, ne-eqb}
+use Rattle.buffers.specs.Map.{atPoints, atPlaces}
 use Rattle.matching.specs.Lists.{All}
 use Rattle.matching.specs.Pairs.{Points}
 use Rattle.matching.specs.Solve.{solve, withPairs, solution}
@@ -125,12 +126,12 @@ module _ (n k : ℕ) (w : Points) (ws : List ℕ) (few : k ≤ 12) (count : k �
 
 -- ---- the words for crate sets
 
-set-word : (w2 : List ℕ) (i : ℕ) → i < 156 → getD (setWords w2) i 0 ≡ getD w2 (7168 + i) 0
-set-word w2 i l = getD-take 156 (drop 7168 w2) i 0 l ∙ getD-drop 7168 w2 i 0
+set-word : (w2 : List ℕ) (i : ℕ) → i < 156 → getD (setWords w2) i 0 ≡ getD w2 (atPoints + i) 0
+set-word w2 i l = getD-take 156 (drop atPoints w2) i 0 l ∙ getD-drop atPoints w2 i 0
 
 set-cell : (w2 : List ℕ) (i : ℕ) → i < 12 → cellAt (setWords w2) i ≡ cellIn w2 i
 set-cell w2 i l =
-    let e : 7168 + (144 + i) ≡ 7312 + i = omega arith in
+    let e : atPoints + (144 + i) ≡ atPlaces + i = omega arith in
     set-word w2 (144 + i) (omega arith) ∙ ap (λ j. getD w2 j 0) e
 
 pub set-ready : {k s : ℕ} {w1 w1′ w2 : List ℕ} → SetThere k w1 w2 → w1′ ≡ zeros (length w1) → s ≡ 2 ^ k - 1
@@ -139,10 +140,10 @@ set-ready {k} {s} {w1} {w1′} {w2} p e q = record {
   within = (let m : 2 ^ k ≤ 2 ^ 12 = pow-mono (p .few) in omega (arith, pow-pos k));
   words = omega (
     arith,
-    length-take-le 156 (drop 7168 w2) (omega (arith, length-drop 7168 w2, p .room2)),
+    length-take-le 156 (drop atPoints w2) (omega (arith, length-drop atPoints w2, p .room2)),
   );
   room = omega (arith, long, p .room1);
-  light = λ i l. rw (set-word w2 i (omega arith)) (p .light i l);
+  light = λ i l. rw (set-word w2 i (omega arith)) (omega (arith, p .light i l));
   cells = λ i l. rw (set-cell w2 i l) (p .cells i l);
   known = λ x l b. absurd (omega (arith, none (4096 + x) (omega (arith, p .room1))));
 }

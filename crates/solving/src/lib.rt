@@ -1,5 +1,7 @@
 // Inner, for solve and pair: solves what is left in the slots. See specs/Left, and specs/Gathered for its parts.
 use buffers;
+use buffers::map::PLACES;
+use buffers::map::POINTS;
 use sets;
 use slots::read;
 ghost use mathlib.Core.Path.{_≡_};
@@ -19,11 +21,8 @@ pub enum Solved {
 
 const MOST: usize = 12;
 
-const POINTS: usize = 7168;
-
-const CELLS: usize = 7312;
-
-const END: usize = 7324;
+// The end of the words for crate sets.
+const END: usize = PLACES + MOST;
 
 // The words for crate sets are cleared.
 fn blank(w2: &mut [u64])
@@ -51,7 +50,7 @@ fn gather_cells(w1: &[u64], w2: &mut [u64], e: usize, n: usize) -> usize
             if MOST <= k {
                 return MOST + 1;
             }
-            w2[CELLS + k] = at as u64;
+            w2[PLACES + k] = at as u64;
             k += 1;
         }
     }
@@ -76,10 +75,10 @@ fn gather_row(w1: &[u64], w2: &mut [u64], e: usize, k: usize, i: usize)
     ensures { λ _. ⌜ RowIn e k (now (w1 .entry)) (now (w2 .exit)) i
         × RowOnly i (now (w2 .entry)) (now (w2 .exit)) ⌝ }
 {
-    let a = w2[CELLS + i] as usize;
+    let a = w2[PLACES + i] as usize;
     let mut j = 0;
     while j < k {
-        let b = w2[CELLS + j] as usize;
+        let b = w2[PLACES + j] as usize;
         w2[POINTS + (MOST * i + j)] = points_of(w1, w2, e, a, b);
         j += 1;
     }

@@ -6,15 +6,15 @@
 -- Assumes nothing.
 use mathlib.Core.Path.{_≡_, refl, ap}
 use mathlib.Core.Bool.{Bool}
-use mathlib.Core.List.{List, [], _∷_, map}
+use mathlib.Core.List.{List, [], _∷_}
 use mathlib.Core.Option.{Option, some, none}
-use Prim.Native.Nat.{ℕ, zero, suc, _+_, _*_, _^_, _≤_, _<_}
+use Prim.Native.Nat.{ℕ, _+_, _≤_, _<_}
 use native.Mathlib.Omega.{arith}
-use lib.ListN.{length, drop, length-map}
+use lib.ListN.{length}
+use Rattle.cellfile.specs.Words.{pointsRoom}
 use Rattle.matching.specs.Lists.{All}
 use Rattle.matching.specs.Pairs.{Points, Each}
 use Rattle.matching.specs.Best.{walk}
-use Rattle.matching.specs.Listed.{Entry}
 use Rattle.matching.specs.Graph.{Graph}
 use Rattle.matching.specs.Steps.{Rule, Step, leaf, ring, chain, apply, name}
 use Rattle.matching.specs.Find.{stepAt}
@@ -26,12 +26,15 @@ use Rattle.matching.proofs.Fits.{Fits, Stands}
 use Rattle.matching.proofs.Exact.{step-graph}
 use Rattle.matching.proofs.Reduce.{replay-fits}
 use Rattle.matching.proofs.Demand.{slip-graph, left-bound, total-fits, no-gain-no-loss}
-use Rattle.cellfile.specs.Fields.{fields, readRecords}
-use Rattle.cellfile.specs.Files.{storeList, asEntry, cellsOf, countOf, entriesOf}
-use Rattle.checks.specs.Refusals.{first, listRows}
-use Rattle.cellfile.proofs.Fields.{length-read-records}
+use Rattle.cellfile.specs.Files.{slip as slipLayout, cellsOf, countOf, inView}
+use Rattle.cellfile.specs.Reads.{RecordThere}
+use Rattle.checks.specs.Refusals.{first, lists, listRows}
+use Rattle.cellfile.proofs.Walk.{entries-count}
+use Rattle.cellfile.proofs.Lists.{view-all, view-small}
 use Rattle.cellfile.specs.Answers.{answer}
-use Rattle.checks.proofs.Accepted.{list-room, list-accepted as passed, accepted-list}
+use Rattle.checks.specs.Calls.{callRows}
+use Rattle.checks.specs.Answering.{Enough}
+use Rattle.checks.proofs.Accepted.{list-fits, call-accepted, accepted-list}
 use Rattle.slots.specs.Slots.{graphOf}
 use Rattle.starting.specs.Steps.{graphIn}
 use Rattle.running.specs.Course.{course}
@@ -83,51 +86,40 @@ stands-below l g (s ∷ ss) f =
 
 -- ---- an accepted list
 
--- From the answer of the list's check.
-pub list-there : {list : List ℕ} {n m : ℕ} {w1 w2 : List ℕ}
-    → (0, n ∷ m ∷ []) ≡ answer (first (listRows storeList list)) (cellsOf list ∷ countOf list ∷ [])
-    → 8192 ≤ length w1 → 8192 ≤ length w2 → ListThere list m w1 w2 × (n ≡ cellsOf list)
-list-there {list} e r1 r2 =
-    let a = passed list e in
-    (record { accepted = a .0; count = a .2; room1 = r1; room2 = r2 }, a .1)
+-- From the answer of the call's check.
+pub list-there : (few : Bool) {list : List ℕ} {n m : ℕ} {w1 w2 : List ℕ}
+    → (0, n ∷ m ∷ []) ≡ answer (first (callRows few list)) (cellsOf list ∷ countOf list ∷ [])
+    → Enough few w1 w2 → ListThere list m w1 w2 × (n ≡ cellsOf list)
+list-there few {list} e enough =
+    let a = call-accepted few list e in
+    let r = enough (a .0) in
+    (record { accepted = a .1; count = a .3; room1 = r .0; room2 = r .1 }, a .2)
 
-points-fit : (m : ℕ) (s : List ℕ)
-    → All (λ (e : Entry). e .2 < 2 ^ 20) (map asEntry (readRecords (storeList .entry) m s))
-unfolding readRecords fields
-points-fit zero s = tt
-points-fit (suc m) s = (omega arith, points-fit m (drop 5 s))
-
-module _ (list : List ℕ) (h : first (listRows storeList list) ≡ 0) where
+module _ (list : List ℕ) (h : first (listRows lists list) ≡ 0) where
   pub list-graph : Graph (cellsOf list) (graphIn list)
-  list-graph = listed-graph (cellsOf list) (entriesOf storeList list) (accepted-list list h .1)
+  list-graph = listed-graph (cellsOf list) (inView list) (accepted-list list h .1)
 
-  pub list-few : length (entriesOf storeList list) ≤ 4096
-  list-few =
-      omega (
-        arith,
-        list-room list {m = countOf list} h refl,
-        length-map (readRecords (storeList .entry) (countOf list) (drop 4 list)) asEntry,
-        length-read-records (storeList .entry) (countOf list) (drop 4 list),
-      )
+  pub list-few : length (inView list) ≤ 4096
+  list-few = omega (arith, list-fits list h, ap length (view-all list), entries-count list)
 
   pub left-small : (rs : List (Rule × ℕ)) (ss : List Step) → replay (cellsOf list) (graphIn list) rs ≡ some ss
-      → (a b : ℕ) → left (graphIn list) ss a b + carried (graphIn list) ss < 17592186044416
+      → (a b : ℕ) → left (graphIn list) ss a b + carried (graphIn list) ss < pointsRoom
   left-small rs ss allowed a b =
       omega (
         arith,
-        left-bound (cellsOf list) (entriesOf storeList list) (accepted-list list h .1) rs ss allowed a b,
-        total-fits 20 (entriesOf storeList list) (points-fit (countOf list) (drop 4 list)) list-few,
+        left-bound (cellsOf list) (inView list) (accepted-list list h .1) rs ss allowed a b,
+        total-fits 20 (inView list) (view-small list) list-few,
       )
 
   pub run-there : {n e m : ℕ} {slip w1 w2 : List ℕ} → n ≡ cellsOf list → Loaded list e w1 w2 → m < 8192
-      → 4 + 2 * m ≤ length slip → RunThere n e m slip w1 w2
+      → ((k : ℕ) → k < m → RecordThere slipLayout slip k) → RunThere n e m slip w1 w2
   run-there en l c r = record {
     holds = l .holds;
     cells = omega (arith, en, accepted-list list h .0);
     graph = rw (en, l .graph) list-graph;
     small = rw (en, l .graph) left-small;
     count = c;
-    slip-room = r;
+    named = r;
   }
 
   module _ (rs : List (Rule × ℕ)) (ss : List Step) (allowed : replay (cellsOf list) (graphIn list) rs ≡ some ss) where
@@ -143,14 +135,14 @@ module _ (list : List ℕ) (h : first (listRows storeList list) ≡ 0) where
       small = small;
     }
       where
-        small : (x y : ℕ) → graphOf e w1 x y < 17592186044416
+        small : (x y : ℕ) → graphOf e w1 x y < pointsRoom
         small x y = rw (a .graph) (omega (arith, left-small rs ss allowed x y))
 
     pub steps-few : length ss ≤ 1024
     steps-few =
         omega (
           arith,
-          no-gain-no-loss (cellsOf list) (entriesOf storeList list) (accepted-list list h .1) rs ss allowed .steps,
+          no-gain-no-loss (cellsOf list) (inView list) (accepted-list list h .1) rs ss allowed .steps,
           accepted-list list h .0,
         )
 

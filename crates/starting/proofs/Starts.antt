@@ -1,30 +1,29 @@
 -- The first part of a call. In order: rows, and those after them (`start-refused`, `start-passed`, `started`); the
--- buffers cleared by a refusal (`settled`, `settled-clears`); refusal 1 (`few-first`, `few-second`, `enough`); the
+-- buffers cleared by a refusal (`settled`, `settled-clears`); refusals 1 to 6 (`call-refused`, `call-passed`); the
 -- slip's check (`seven-refused`, `seven-passed`); the steps that the loop took (`takes-refused`, `takes-done`), of a
 -- slip (`slip-starts`) and of reduce (`reduce-starts`); what has passed the slip's check (`slip-accepted`). Assumes
 -- nothing.
 use mathlib.Core.Path.{_≡_, refl, sym, ap, subst, _∙_}
-use mathlib.Core.Bool.{true, false, not}
+use mathlib.Core.Bool.{Bool, true, false, not}
 use mathlib.Core.List.{List, [], _∷_, _++_, map}
 use mathlib.Core.Option.{Option, some, none}
-use Prim.Native.Nat.{ℕ, _≤_, _<_}
+use Prim.Native.Nat.{ℕ, _<_}
 use native.Mathlib.Omega.{arith}
-use borrow.Author.Tests.{lt-ltb, le-ltb}
 use Rattle.matching.specs.Lists.{All}
 use Rattle.matching.specs.Pairs.{Points}
 use Rattle.matching.specs.Steps.{Step}
 use Rattle.matching.specs.Slip.{reduce, carried}
 use Rattle.cellfile.specs.Fields.{readRecords}
-use Rattle.cellfile.specs.Files.{storeList, cellsOf, countOf, stepsOf, asName}
-use Rattle.checks.specs.Refusals.{Row, first, fewWords, listRows, badSlip}
+use Rattle.cellfile.specs.Files.{cellsOf, countOf, stepsOf, asName}
+use Rattle.checks.specs.Refusals.{Row, first, lists, listRows, rules, badSlip, disallowed}
+use Rattle.checks.specs.Calls.{callRows}
 use Rattle.cellfile.specs.Answers.{answer}
 use Rattle.checks.proofs.Layers.{answer-accepted, layer-refused, layer-passed}
 use Rattle.slots.specs.Slots.{graphOf}
-use Rattle.starting.specs.Steps.{graphIn, stepsOn, reduceSteps}
+use Rattle.starting.specs.Steps.{graphIn, stepsOn, stand, slipRows, reduceSteps}
 use Rattle.running.specs.Course.{course}
 use Rattle.running.specs.Running.{After, RunDone, namesAt}
-use Rattle.starting.specs.Starting.{SlipThere, Loaded, slipRow, standRow, StartDone, Starts, courseOn, Takes}
-use Rattle.starting.specs.Starting.{RefusedClears, Settles}
+use Rattle.starting.specs.Starting.{SlipThere, Loaded, StartDone, Starts, courseOn, Takes, RefusedClears, Settles}
 use Rattle.starting.specs.declared.Started.{Started}
 use Rattle.starting.specs.declared.Started.the-variants.{Refused, Done}
 use Rattle.starting.proofs.OnList.{course-replay}
@@ -87,41 +86,43 @@ unfolding Settles RefusedClears
 settled-clears v1 v2 w1 w2 w1′ w2′ (Refused k) p q h = (h .0 ∙ ap zeros p, h .1 ∙ ap zeros q)
 settled-clears v1 v2 w1 w2 w1′ w2′ (Done n slots trail carried steps) p q h = tt
 
--- ---- refusal 1
+-- ---- refusals 1 to 6, from the answer of the call's check
 
-module _ (i j : ℕ) (more : List Row) (list : List ℕ) (o : Option (List Step)) (w1′ w2′ : List ℕ) where
-  abbrev Words : Started → Type 0
-  Words = Starts ((1, fewWords (i ∷ j ∷ [])) ∷ more) list o w1′ w2′
+module _ (few : Bool) (list : List ℕ) (more : List Row) (o : Option (List Step)) (w1′ w2′ : List ℕ) where
+  pub call-refused : {k : ℕ} → (k, []) ≡ answer (first (callRows few list)) (cellsOf list ∷ countOf list ∷ [])
+      → Starts (callRows few list ++ more) list o w1′ w2′ (Refused k)
+  call-refused e = start-refused (callRows few list) more list o w1′ w2′ (cellsOf list) (countOf list ∷ []) e
 
-  pub few-first : i < 8192 → Words (Refused 1)
-  unfolding fewWords Starts
-  few-first l = rw (lt-ltb i 8192 l)
+  pub call-passed : {n m : ℕ}
+      → (0, n ∷ m ∷ []) ≡ answer (first (callRows few list)) (cellsOf list ∷ countOf list ∷ [])
+      → (r : Started) → Starts more list o w1′ w2′ r → Starts (callRows few list ++ more) list o w1′ w2′ r
+  call-passed {n} {m} e r d =
+      start-passed (callRows few list) more list o w1′ w2′ r (omega arith)
+      (answer-accepted (first (callRows few list)) (n ∷ m ∷ []) (cellsOf list ∷ countOf list ∷ []) e .0) d
 
-  pub few-second : 8192 ≤ i → j < 8192 → Words (Refused 1)
-  unfolding fewWords Starts
-  few-second k l = rw (le-ltb i 8192 k, lt-ltb j 8192 l)
+-- ---- refusals 7 and 8 one by one
 
-  pub enough : 8192 ≤ i → 8192 ≤ j → (r : Started) → Starts more list o w1′ w2′ r → Words r
-  unfolding fewWords
-  enough k l r d =
-      start-passed ((1, fewWords (i ∷ j ∷ [])) ∷ []) more list o w1′ w2′ r (omega arith, tt)
-      (rw (le-ltb i 8192 k, le-ltb j 8192 l)) d
+abbrev seven : List ℕ → List ℕ → List Row
+seven list slip = (7, badSlip rules (cellsOf list) slip) ∷ []
+
+abbrev pub stands : List ℕ → List ℕ → List Row
+stands list slip = (8, disallowed (stand list) slip) ∷ []
 
 -- ---- refusal 7, from the answer of the slip's check
 
 module _ (list slip : List ℕ) (o : Option (List Step)) (w1′ w2′ : List ℕ) where
   pub seven-refused : {n k : ℕ} → n ≡ cellsOf list
-      → (k, []) ≡ answer (first ((7, badSlip n slip) ∷ [])) (n ∷ countOf slip ∷ [])
-      → Starts (slipRow list slip ∷ standRow list slip ∷ []) list o w1′ w2′ (Refused k)
+      → (k, []) ≡ answer (first ((7, badSlip rules n slip) ∷ [])) (n ∷ countOf slip ∷ [])
+      → Starts (slipRows list slip) list o w1′ w2′ (Refused k)
   seven-refused {n} en e =
-      start-refused (slipRow list slip ∷ []) (standRow list slip ∷ []) list o w1′ w2′ n (countOf slip ∷ [])
-      (e ∙ ap (λ i. answer (first ((7, badSlip i slip) ∷ [])) (n ∷ countOf slip ∷ [])) en)
+      start-refused (seven list slip) (stands list slip) list o w1′ w2′ n (countOf slip ∷ [])
+      (e ∙ ap (λ i. answer (first ((7, badSlip rules i slip) ∷ [])) (n ∷ countOf slip ∷ [])) en)
 
   pub seven-passed : {k : ℕ} → SlipThere list slip k → (r : Started)
-      → Starts (standRow list slip ∷ []) list o w1′ w2′ r
-      → Starts (slipRow list slip ∷ standRow list slip ∷ []) list o w1′ w2′ r
+      → Starts (stands list slip) list o w1′ w2′ r
+      → Starts (slipRows list slip) list o w1′ w2′ r
   seven-passed s r d =
-      start-passed (slipRow list slip ∷ []) (standRow list slip ∷ []) list o w1′ w2′ r (omega arith, tt)
+      start-passed (seven list slip) (stands list slip) list o w1′ w2′ r (omega arith, tt)
       (rw (s .formed)) d
 
 -- ---- the steps
@@ -141,7 +142,7 @@ module _ (list slip : List ℕ) {n e : ℕ} {w1 w2 : List ℕ} (en : n ≡ cells
   unfolding Takes
   takes-refused w1′ w2′ q h = (q, course-is h)
 
-  pub takes-done : {slots trail points steps : ℕ} {w1′ w2′ : List ℕ} → first (listRows storeList list) ≡ 0
+  pub takes-done : {slots trail points steps : ℕ} {w1′ w2′ : List ℕ} → first (listRows lists list) ≡ 0
       → RunDone n (graphOf e w1) (namesAt k slip) more slots trail points steps w1′ w2′
       → Takes list (courseOn list slip k more) w1′ w2′ (Done n slots trail points steps)
   unfolding Takes
@@ -177,7 +178,7 @@ module _ (list slip : List ℕ) {k : ℕ} (ek : k ≡ countOf slip) (w1′ w2′
   eight o = (8, not (elim o [ none ↦ false | some ss ↦ true ])) ∷ []
 
   pub slip-starts : (r : Started) → Takes list (courseOn list slip k 0) w1′ w2′ r
-      → Starts (standRow list slip ∷ []) list (stepsOn list (stepsOf slip)) w1′ w2′ r
+      → Starts (stands list slip) list (stepsOn list (stepsOf slip)) w1′ w2′ r
   unfolding Starts Takes
   slip-starts (Refused r) (q, h) =
       subst (λ o. (r, []) ≡ answer (first (eight o)) (0 ∷ [])) (sym (on-slip ∙ h)) (rw q refl)
@@ -203,11 +204,11 @@ module _ (list : List ℕ) {n : ℕ} (en : n ≡ cellsOf list) (w1′ w2′ : Li
 
 -- what has passed the slip's check
 pub slip-accepted : (list slip : List ℕ) {n i k : ℕ} → n ≡ cellsOf list
-    → (0, i ∷ k ∷ []) ≡ answer (first ((7, badSlip n slip) ∷ [])) (n ∷ countOf slip ∷ []) → SlipThere list slip k
+    → (0, i ∷ k ∷ []) ≡ answer (first ((7, badSlip rules n slip) ∷ [])) (n ∷ countOf slip ∷ []) → SlipThere list slip k
 slip-accepted list slip {n} {i} {k} en e =
-    let rows : List Row = (7, badSlip n slip) ∷ [] in
+    let rows : List Row = (7, badSlip rules n slip) ∷ [] in
     let a = answer-accepted (first rows) (i ∷ k ∷ []) (n ∷ countOf slip ∷ []) e in
     record {
-      formed = ap (λ j. badSlip j slip) (sym en) ∙ first-none rows (omega arith, tt) (a .0) .0;
+      formed = ap (λ j. badSlip rules j slip) (sym en) ∙ first-none rows (omega arith, tt) (a .0) .0;
       count = ap (λ vs. getD vs 1 0) (a .1);
     }

@@ -1,14 +1,14 @@
 -- The first part of a call: its inputs are checked, then its steps taken. Inner contracts cite this; lifting starts so
 -- too.
 use mathlib.Core.Path.{_≡_}
-use mathlib.Core.List.{List, [], _∷_, _++_}
+use mathlib.Core.List.{List, [], _∷_}
 use mathlib.Core.Option.{Option, some, none}
 use Prim.Native.Nat.{ℕ, _≤_}
 use Rattle.matching.specs.Steps.{Step}
-use Rattle.cellfile.specs.Files.{storeList, cellsOf, countOf}
-use Rattle.checks.specs.Refusals.{Row, first, fewWords, listRows, badSlip, disallowed}
+use Rattle.cellfile.specs.Files.{cellsOf, countOf}
+use Rattle.checks.specs.Refusals.{Row, first, lists, listRows, rules, badSlip}
 use Rattle.cellfile.specs.Answers.{answer}
-use Rattle.starting.specs.Steps.{graphIn, stand}
+use Rattle.starting.specs.Steps.{graphIn}
 use Rattle.running.specs.Course.{course}
 use Rattle.running.specs.Running.{After, namesAt}
 use Rattle.starting.specs.declared.Started.{Started}
@@ -20,14 +20,14 @@ use Rattle.slots.specs.Slots.{Holds, graphOf}
 
 -- The list has passed refusals 2 to 6, the buffers refusal 1.
 pub record ListThere (list : List ℕ) (m : ℕ) (w1 w2 : List ℕ) : Type 0 where
-  pub accepted : first (listRows storeList list) ≡ 0
+  pub accepted : first (listRows lists list) ≡ 0
   pub count : m ≡ countOf list
   pub room1 : 8192 ≤ length w1
   pub room2 : 8192 ≤ length w2
 
 -- The slip has passed refusal 7.
 pub record SlipThere (list slip : List ℕ) (k : ℕ) : Type 0 where
-  pub formed : badSlip (cellsOf list) slip ≡ false
+  pub formed : badSlip rules (cellsOf list) slip ≡ false
   pub count : k ≡ countOf slip
 
 -- e slots hold the list's working graph.
@@ -35,24 +35,10 @@ pub record Loaded (list : List ℕ) (e : ℕ) (w1 w2 : List ℕ) : Type 0 where
   pub holds : Holds e w1 w2
   pub graph : graphOf e w1 ≡ graphIn list
 
--- Refusals 7 and 8 of a slip.
-abbrev pub slipRow : List ℕ → List ℕ → Row
-slipRow list slip = (7, badSlip (cellsOf list) slip)
-
-abbrev pub standRow : List ℕ → List ℕ → Row
-standRow list slip = (8, disallowed (stand list) slip)
-
--- Refusals 1 to 6, and 1 to 8.
-abbrev pub listStart : List ℕ → List ℕ → List Row
-listStart list lent = (1, fewWords lent) ∷ listRows storeList list
-
-abbrev pub slipStart : List ℕ → List ℕ → List ℕ → List Row
-slipStart list slip lent = listStart list lent ++ (slipRow list slip ∷ standRow list slip ∷ [])
-
 -- The list is accepted, and these steps were taken on it.
 pub record StartDone (list : List ℕ) (o : Option (List Step)) (n slots on-trail points steps : ℕ) (w1′ w2′ : List ℕ)
     : Type 0 where
-  pub accepted : first (listRows storeList list) ≡ 0
+  pub accepted : first (listRows lists list) ≡ 0
   pub cells : n ≡ cellsOf list
   pub taken : List Step
   pub steps-are : o ≡ some taken

@@ -6,15 +6,15 @@ use running;
 use running::Ran;
 use running::lists;
 ghost use mathlib.Core.Path.{_≡_};
-ghost use mathlib.Core.List.{_∷_, []};
+ghost use mathlib.Core.List.{_++_};
 ghost use mathlib.Core.Option.{some};
-ghost use Prim.Native.Nat.{_+_, _*_, _<_, _≤_};
-ghost use lib.ListN.{length};
-ghost use Rattle.cellfile.specs.Files.{cellsOf, stepsOf};
-ghost use Rattle.buffers.specs.Buffers.{lent};
-ghost use Rattle.starting.specs.Steps.{stepsOn, reduceSteps};
-ghost use Rattle.starting.specs.Starting.{ListThere, Loaded, slipRow, standRow, listStart, slipStart, Starts};
-ghost use Rattle.starting.specs.Starting.{Settles, RefusedClears, courseOn, Takes};
+ghost use Prim.Native.Nat.{ℕ, _<_, _≤_};
+ghost use Rattle.cellfile.specs.Files.{slip as slipLayout, cellsOf, stepsOf};
+ghost use Rattle.cellfile.specs.Reads.{RecordThere};
+ghost use Rattle.checks.specs.Calls.{callRows};
+ghost use Rattle.checks.specs.Answering.{Enough};
+ghost use Rattle.starting.specs.Steps.{stepsOn, slipRows, reduceSteps};
+ghost use Rattle.starting.specs.Starting.{ListThere, Loaded, Starts, Settles, RefusedClears, courseOn, Takes};
 
 // A refusal; or the cells of the list, and as of `running::run` what stands in the buffers after the steps.
 pub enum Started {
@@ -28,7 +28,10 @@ pub enum Started {
     },
 }
 
-const WORDS: usize = 8192;
+// The rules of the steps leaf, ring and chain.
+const FIRST_RULE: u64 = 1;
+
+const LAST_RULE: u64 = 3;
 
 // The working graph of an accepted list of m entries, in cleared buffers: the number of slots.
 fn load_list(list: &[u8], m: usize, w1: &mut [u64], w2: &mut [u64]) -> usize
@@ -51,7 +54,7 @@ fn take_steps(
     w2: &mut [u64],
 ) -> Started
     requires { ⌜ ListThere (now list) m (now w1) (now w2) × (n ≡ cellsOf (now list)) × (k < 8192)
-        × (4 + 2 * k ≤ length (now slip)) × (more ≤ 1024) ⌝ }
+        × ((i : ℕ) → i < k → RecordThere slipLayout (now slip) i) × (more ≤ 1024) ⌝ }
     ensures { λ r. ⌜ Takes (now (list .entry)) (courseOn (now (list .entry)) (now (slip .entry)) k more)
         (now (w1 .exit)) (now (w2 .exit)) r ⌝ }
 {
@@ -83,60 +86,47 @@ fn start_list(
     w2: &mut [u64],
 ) -> Started
     requires { ⌜ ListThere (now list) m (now w1) (now w2) × (n ≡ cellsOf (now list)) ⌝ }
-    ensures { λ r. ⌜ Starts (slipRow (now (list .entry)) (now (slip .entry))
-        ∷ standRow (now (list .entry)) (now (slip .entry)) ∷ []) (now (list .entry))
+    ensures { λ r. ⌜ Starts (slipRows (now (list .entry)) (now (slip .entry))) (now (list .entry))
         (stepsOn (now (list .entry)) (stepsOf (now (slip .entry)))) (now (w1 .exit)) (now (w2 .exit)) r ⌝ }
 {
-    match checks::check_slip(slip, n) {
+    match checks::check_slip(slip, n, FIRST_RULE, LAST_RULE) {
         Checked::Refused(r) => Started::Refused(r),
         Checked::Accepted { n: _, m: k } => take_steps(list, n, m, slip, k, 0, w1, w2),
     }
 }
 
 // Refusals 1 to 8, then the steps of the slip on the list; a refusal leaves anything in the buffers.
-fn begin_slip(list: &[u8], slip: &[u8], work_a: &mut [u64], work_b: &mut [u64]) -> Started
-    ensures { λ r. ⌜ Starts (slipStart (now (list .entry)) (now (slip .entry))
-        (lent (now («work_a» .entry)) (now («work_b» .entry)))) (now (list .entry))
-        (stepsOn (now (list .entry)) (stepsOf (now (slip .entry)))) (now («work_a» .exit)) (now («work_b» .exit)) r ⌝ }
+fn begin_slip(few: bool, list: &[u8], slip: &[u8], w1: &mut [u64], w2: &mut [u64]) -> Started
+    requires { ⌜ Enough few (now w1) (now w2) ⌝ }
+    ensures { λ r. ⌜ Starts (callRows few (now (list .entry)) ++ slipRows (now (list .entry)) (now (slip .entry)))
+        (now (list .entry)) (stepsOn (now (list .entry)) (stepsOf (now (slip .entry))))
+        (now (w1 .exit)) (now (w2 .exit)) r ⌝ }
 {
-    if work_a.len() < WORDS {
-        return Started::Refused(1);
-    }
-    if work_b.len() < WORDS {
-        return Started::Refused(1);
-    }
-    match checks::check_list(list) {
+    match checks::check_call(few, list) {
         Checked::Refused(r) => Started::Refused(r),
-        Checked::Accepted { n, m } => start_list(list, n, m, slip, work_a, work_b),
+        Checked::Accepted { n, m } => start_list(list, n, m, slip, w1, w2),
     }
 }
 
 // Refusals 1 to 6, then the steps that reduce takes on the list; a refusal leaves anything in the buffers.
-fn begin_reduce(list: &[u8], work_a: &mut [u64], work_b: &mut [u64]) -> Started
-    ensures { λ r. ⌜ Starts (listStart (now (list .entry)) (lent (now («work_a» .entry)) (now («work_b» .entry))))
-        (now (list .entry)) (some (reduceSteps (now (list .entry)))) (now («work_a» .exit)) (now («work_b» .exit)) r ⌝ }
+fn begin_reduce(few: bool, list: &[u8], w1: &mut [u64], w2: &mut [u64]) -> Started
+    requires { ⌜ Enough few (now w1) (now w2) ⌝ }
+    ensures { λ r. ⌜ Starts (callRows few (now (list .entry))) (now (list .entry))
+        (some (reduceSteps (now (list .entry)))) (now (w1 .exit)) (now (w2 .exit)) r ⌝ }
 {
-    if work_a.len() < WORDS {
-        return Started::Refused(1);
-    }
-    if work_b.len() < WORDS {
-        return Started::Refused(1);
-    }
-    match checks::check_list(list) {
+    match checks::check_call(few, list) {
         Checked::Refused(r) => Started::Refused(r),
-        Checked::Accepted { n, m } => take_steps(list, n, m, list, 0, n, work_a, work_b),
+        Checked::Accepted { n, m } => take_steps(list, n, m, list, 0, n, w1, w2),
     }
 }
 
 // Clears the buffers where the start was refused.
-fn settle(r: Started, work_a: &mut [u64], work_b: &mut [u64])
-    ensures { λ _. ⌜ Settles (now («work_a» .entry)) (now («work_b» .entry))
-        (now («work_a» .exit)) (now («work_b» .exit)) r ⌝ }
+fn settle(r: Started, w1: &mut [u64], w2: &mut [u64])
+    ensures { λ _. ⌜ Settles (now (w1 .entry)) (now (w2 .entry)) (now (w1 .exit)) (now (w2 .exit)) r ⌝ }
 {
     match r {
         Started::Refused(_) => {
-            buffers::clear(work_a);
-            buffers::clear(work_b);
+            buffers::clear_both(w1, w2);
         }
         Started::Done {
             n: _,
@@ -148,28 +138,27 @@ fn settle(r: Started, work_a: &mut [u64], work_b: &mut [u64])
     }
 }
 
-// Refusals 1 to 8, which leave the buffers zero; then the steps of the slip on the list.
-pub fn start_slip(list: &[u8], slip: &[u8], work_a: &mut [u64], work_b: &mut [u64]) -> Started
-    ensures starts { λ r. ⌜ Starts (slipStart (now (list .entry)) (now (slip .entry))
-        (lent (now («work_a» .entry)) (now («work_b» .entry)))) (now (list .entry))
-        (stepsOn (now (list .entry)) (stepsOf (now (slip .entry)))) (now («work_a» .exit)) (now («work_b» .exit)) r ⌝ }
-    ensures cleared { λ r. ⌜ RefusedClears (now («work_a» .entry)) (now («work_b» .entry))
-        (now («work_a» .exit)) (now («work_b» .exit)) r ⌝ }
+// Refusals 1 to 8, which leave the buffers zero; then the steps of the slip on the list. `few` says whether 1 holds.
+pub fn start_slip(few: bool, list: &[u8], slip: &[u8], w1: &mut [u64], w2: &mut [u64]) -> Started
+    requires { ⌜ Enough few (now w1) (now w2) ⌝ }
+    ensures starts { λ r. ⌜ Starts (callRows few (now (list .entry))
+        ++ slipRows (now (list .entry)) (now (slip .entry))) (now (list .entry))
+        (stepsOn (now (list .entry)) (stepsOf (now (slip .entry)))) (now (w1 .exit)) (now (w2 .exit)) r ⌝ }
+    ensures cleared { λ r. ⌜ RefusedClears (now (w1 .entry)) (now (w2 .entry)) (now (w1 .exit)) (now (w2 .exit)) r ⌝ }
 {
-    let r = begin_slip(list, slip, work_a, work_b);
-    settle(r, work_a, work_b);
+    let r = begin_slip(few, list, slip, w1, w2);
+    settle(r, w1, w2);
     r
 }
 
 // Refusals 1 to 6, which leave the buffers zero; then the steps that reduce takes on the list.
-pub fn start_reduce(list: &[u8], work_a: &mut [u64], work_b: &mut [u64]) -> Started
-    ensures starts { λ r. ⌜ Starts (listStart (now (list .entry))
-        (lent (now («work_a» .entry)) (now («work_b» .entry))))
-        (now (list .entry)) (some (reduceSteps (now (list .entry)))) (now («work_a» .exit)) (now («work_b» .exit)) r ⌝ }
-    ensures cleared { λ r. ⌜ RefusedClears (now («work_a» .entry)) (now («work_b» .entry))
-        (now («work_a» .exit)) (now («work_b» .exit)) r ⌝ }
+pub fn start_reduce(few: bool, list: &[u8], w1: &mut [u64], w2: &mut [u64]) -> Started
+    requires { ⌜ Enough few (now w1) (now w2) ⌝ }
+    ensures starts { λ r. ⌜ Starts (callRows few (now (list .entry))) (now (list .entry))
+        (some (reduceSteps (now (list .entry)))) (now (w1 .exit)) (now (w2 .exit)) r ⌝ }
+    ensures cleared { λ r. ⌜ RefusedClears (now (w1 .entry)) (now (w2 .entry)) (now (w1 .exit)) (now (w2 .exit)) r ⌝ }
 {
-    let r = begin_reduce(list, work_a, work_b);
-    settle(r, work_a, work_b);
+    let r = begin_reduce(few, list, w1, w2);
+    settle(r, w1, w2);
     r
 }

@@ -1,8 +1,9 @@
 -- Taking a step, put together from its parts. In order: a row that goes and leaves three slots free (`row-room`,
--- `row-gone`); its words read from the trail (`row-read`); the closing word behind them; each rule's step, with what it
--- asks of its parts and what they leave (`leaf-..`, `ring-..`, `chain-..`); what is found is the step that stands
--- there (`found-step`), so that a part is told what it asks (`leaf-found`, `ring-found`, `chain-found`, `none-found`)
--- and what it takes is the step that was found (`leaf-told`, `ring-told`, `chain-told`). Assumes nothing.
+-- `row-gone`); its words on the trail, how many they are (`row-many`) and that they are the row's (`row-read`); the
+-- closing word behind them; each rule's step, with what it asks of its parts and what they leave (`leaf-..`, `ring-..`,
+-- `chain-..`); what is found is the step that stands there (`found-step`), so that a part is told what it asks
+-- (`leaf-found`, `ring-found`, `chain-found`, `none-found`) and what it takes is the step that was found (`leaf-told`,
+-- `ring-told`, `chain-told`). Assumes nothing.
 use mathlib.Core.Path.{_≡_, refl, sym, ap, ap₂, subst, _∙_}
 use mathlib.Core.Logic.{inl, inr, _≢_}
 use mathlib.Core.Bool.{Bool, true, cond}
@@ -14,6 +15,7 @@ use native.Mathlib.Numerals.{add-one}
 use lib.Dec.{ltb}
 use lib.ListN.{length, getD, set, take, drop, length-append}
 use lib.Seq.{length-take-le, take-suc-set, getD-set-other, take-add, drop-at}
+use Rattle.buffers.specs.Map.{trailRoom, atNames}
 use Rattle.matching.specs.Lists.{mem}
 use Rattle.matching.specs.Pairs.{Pair, Points, Each, ι}
 use Rattle.matching.specs.Graph.{partners, put, dropped}
@@ -31,11 +33,10 @@ use Rattle.matching.proofs.Put.{pair-below, dropped-out}
 use Rattle.matching.proofs.Partners.{partners-one}
 use Rattle.matching.proofs.Rows.{Ends, inner-below, row-of}
 use Rattle.matching.proofs.Search.{none-some}
-use Rattle.cellfile.specs.Answers.{Answer}
 use Rattle.rows.specs.Row.{rowWords, RowOf, ChainH, RingH}
 use Rattle.rows.specs.declared.ChainPoints.{ChainPoints}
 use Rattle.rows.specs.declared.RingPoints.{RingPoints}
-use Rattle.rows.proofs.Parts.{length-row}
+use Rattle.rows.proofs.Parts.{length-row, row-few}
 use Rattle.slots.specs.Slots.{Holds, graphOf, Joins, Changed, live}
 use Rattle.slots.proofs.Graphs.{holds-graph}
 use Rattle.slots.proofs.Lives.{live-most}
@@ -43,7 +44,8 @@ use Rattle.slots.proofs.Holding.{holds-room, holds-trail, joins-pair}
 use Rattle.finding.specs.Rows.{innerAt}
 use Rattle.trail.specs.Taking.{RowThere, RowTaken}
 use Rattle.trail.specs.Trail.{closing, stepWords}
-use Rattle.finding.specs.Finding.{told, toTell, Way, Finds, asStep, stepOf}
+use Rattle.finding.specs.Finding.{Way, Finds, asStep, stepOf}
+use Rattle.finding.proofs.Told.{over, told-step}
 use Rattle.taking.specs.Applying.{StepThere, StepTaken}
 use Rattle.putting.specs.Putting.{Unpaired, EndsThere, EndsPut}
 use Rattle.taking.specs.Parts.{RowGone, LeafThere, RingThere, ChainThere}
@@ -81,6 +83,41 @@ module _ {e : ℕ} {w1 w2 w1a w2a : List ℕ} {t u f i v k : ℕ} (h : RowThere 
 
 -- ---- the words of a row on the trail
 
+module _ {e : ℕ} {w1 w2 w1a w2a : List ℕ} {t u f i v : ℕ} {c : Cleared} (h : RowThere e w1 w2 t u f i v)
+    (g : RowGone e w1 w2 w1a w2a t u f v c) where
+  -- as they are lent
+  abbrev lent : List ℕ
+  lent = take (t + c .pairs - t) (drop t w2a)
+
+  row-words : lent ≡ rowWords (graphOf e w1) u (innerAt e w1 u f) v
+  row-words =
+      ap (λ (j : ℕ). take j (drop t w2a)) {x = t + c .pairs - t} {y = c .pairs} (omega arith)
+      ∙ sym (drop-at (take t w2a) (take (c .pairs) (drop t w2a)) t
+      (length-take-le t w2a (omega (arith, h .room, holds-room (g .holds)))))
+      ∙ ap (drop t) (sym (take-add t (c .pairs) w2a) ∙ g .trail)
+      ∙ drop-at (take t w2) _ t (length-take-le t w2 (omega (arith, h .room, holds-room (h .holds))))
+
+  pub row-many : (3 ≤ length lent) × (length lent ≤ 1024)
+  row-many =
+      let q = ap length row-words ∙ length-row (graphOf e w1) u (innerAt e w1 u f) v in
+      let l = pair-below (holds-graph (h .holds)) u f (joins-pair (h .holds) (h .joins)) .0 in
+      let low = inner-below (holds-graph (h .holds)) (h .row) in (
+        omega (arith, h .row .more),
+        omega (arith, row-few 1024 u (innerAt e w1 u f) (h .row .apart) (h .row .first-off) l low),
+      )
+
+  pub row-read : RowOf (graphOf e w1) u (innerAt e w1 u f) v lent
+  row-read = record {
+    words = row-words;
+    apart = h .row .apart;
+    first-off = h .row .first-off;
+    last-off = h .row .last-off;
+    more = h .row .more;
+    fits = each-all (h .fits) (walk u (innerAt e w1 u f) v);
+  }
+
+-- ---- the closing word behind them
+
 module _ {e : ℕ} {w1 w2 w1a w2a : List ℕ} {t u f v : ℕ} {c : Cleared} (g : RowGone e w1 w2 w1a w2a t u f v c) where
   abbrev inner : List ℕ
   inner = innerAt e w1 u f
@@ -88,30 +125,9 @@ module _ {e : ℕ} {w1 w2 w1a w2a : List ℕ} {t u f v : ℕ} {c : Cleared} (g :
   abbrev words : List ℕ
   words = rowWords (graphOf e w1) u inner v
 
-  pub row-words : t + length inner + 2 ≤ 4096 → 8192 ≤ length w2 → take (t + c .pairs - t) (drop t w2a) ≡ words
-  row-words l m =
-      ap (λ (j : ℕ). take j (drop t w2a)) {x = t + c .pairs - t} {y = c .pairs} (omega arith)
-      ∙ sym (drop-at (take t w2a) (take (c .pairs) (drop t w2a)) t
-      (length-take-le t w2a (omega (arith, holds-room (g .holds)))))
-      ∙ ap (drop t) (sym (take-add t (c .pairs) w2a) ∙ g .trail)
-      ∙ drop-at (take t w2) words t (length-take-le t w2 (omega arith))
-
-  pub row-read : t + length inner + 2 ≤ 4096 → 8192 ≤ length w2 → IsRow 1024 (graphOf e w1) u inner v
-      → ((a b : ℕ) → graphOf e w1 a b < 17592186044416)
-      → RowOf (graphOf e w1) u inner v (take (t + c .pairs - t) (drop t w2a))
-  row-read l m r b = record {
-    words = row-words l m;
-    apart = r .apart;
-    first-off = r .first-off;
-    last-off = r .last-off;
-    more = r .more;
-    fits = each-all b (walk u inner v);
-  }
-
-  -- the closing word behind them
-  module _ (l : t + length inner + 2 ≤ 4096) {s : ℕ} {w : Points} {w1b w2b : List ℕ} (d : Changed s w w1b w2a w2b)
+  module _ (l : t + length inner + 2 ≤ trailRoom) {s : ℕ} {w : Points} {w1b w2b : List ℕ} (d : Changed s w w1b w2a w2b)
       (q : length w2b ≡ length w2a) (x : ℕ) where
-    below : t + c .pairs < 4096
+    below : t + c .pairs < trailRoom
     below = omega (arith, g .count)
 
     closed-trail : take (t + c .pairs + 1) (set w2b (t + c .pairs) x) ≡ take t w2 ++ (words ++ x ∷ [])
@@ -126,7 +142,7 @@ module _ {e : ℕ} {w1 w2 w1a w2a : List ℕ} {t u f v : ℕ} {c : Cleared} (g :
     closed-holds : Holds s w1b (set w2b (t + c .pairs) x)
     closed-holds = holds-trail (d .holds) (t + c .pairs) x below
 
-    closed-aside : (j : ℕ) → 6144 ≤ j → getD (set w2b (t + c .pairs) x) j 0 ≡ getD w2 j 0
+    closed-aside : (j : ℕ) → atNames ≤ j → getD (set w2b (t + c .pairs) x) j 0 ≡ getD w2 j 0
     closed-aside j m =
         getD-set-other w2b (t + c .pairs) j x 0 (omega (arith, below)) ∙ d .aside j (inr m) ∙ g .aside j m
 
@@ -200,8 +216,7 @@ module _ {e : ℕ} {w1 w2 : List ℕ} {t u z f i : ℕ} (h : RingThere e w1 w2 t
         → ((w : Points) (u : ℕ) (inner : List ℕ) → RowOf w u inner u (take (t + c .pairs - t) (drop t w2a))
         → RingH w u inner p)
         → RingH ring-w u (innerAt e w1 u f) p
-    ring-read b =
-        b ring-w u (innerAt e w1 u f) (row-read g (h .room) (holds-room (h .holds) .1) (h .is .row) (h .fits))
+    ring-read b = b ring-w u (innerAt e w1 u f) (row-read ring-row g)
 
     pub ring-unpaired : Unpaired (c .slots) w1a w2a u z
     ring-unpaired = record {
@@ -285,8 +300,7 @@ module _ {e : ℕ} {w1 w2 : List ℕ} {t u v z f i : ℕ} (h : ChainThere e w1 w
         → ((w : Points) (u : ℕ) (inner : List ℕ) (v : ℕ)
         → RowOf w u inner v (take (t + c .pairs - t) (drop t w2a)) → u ≢ v → ChainH w u inner v p)
         → ChainH chain-w u chain-inner v p
-    chain-read b =
-        b chain-w u chain-inner v (row-read g (h .room) (holds-room (h .holds) .1) (h .is .row) (h .fits)) ends-apart
+    chain-read b = b chain-w u chain-inner v (row-read chain-row g) ends-apart
 
     pub chain-ends : EndsThere (c .slots) w1a w2a u v z
     chain-ends = record {
@@ -394,12 +408,6 @@ is-chain by-leaf c u v z inner p = absurd p
 is-chain by-ring c u v z inner p = absurd p
 is-chain by-chain c u v z inner p = p .1
 
-rule-of : {a b : Answer} → a ≡ b → a .0 ≡ b .0
-rule-of q = ap (λ (x : Answer). x .0) q
-
-cell-of : (j : ℕ) {a b : Answer} → a ≡ b → getD (a .1) j 0 ≡ getD (b .1) j 0
-cell-of j q = ap (λ (x : Answer). getD (x .1) j 0) q
-
 -- the inner cells of a row are read by walking
 inner-of : {e : ℕ} {w1 w2 : List ℕ} {u v f : ℕ} {cs : List ℕ} → Holds e w1 w2 → IsRow 1024 (graphOf e w1) u cs v
     → Ends 1024 (graphOf e w1) u v → f ≡ first v cs → innerAt e w1 u f ≡ cs
@@ -408,31 +416,17 @@ inner-of {e} {w1} {u = u} h r end q =
 
 pub found-step : {e : ℕ} {w1 w2 : List ℕ} → Holds e w1 w2 → (r : Rule) (c : ℕ) {s : Step}
     → IsStep 1024 (graphOf e w1) r c s → {x : Found} → Finds e w1 (some s) x → stepOf (graphOf e w1) x ≡ some s
-found-step {e} {w1} h r c {s} p {x} m = go (x .step) s (m .step) p (m .way)
+found-step {e} {w1} h r c {s} p {x} m =
+    told-step (λ u. innerAt e w1 u (x .first)) (x .step) s (m .step) ∙ go s p (m .way)
   where
-    f : ℕ
-    f = x .first
-
-    go : (k : declared.Step) (s : Step) → told k ≡ toTell (some s) → IsStep 1024 (graphOf e w1) r c s
-        → Way e w1 (some s) f (x .slot) → asStep k (λ u. innerAt e w1 u f) ≡ some s
-    go (found.Leaf v u) (leaf u′ v′) q p m = ap₂ (λ a b. some (leaf a b)) (cell-of 1 q) (cell-of 0 q)
-    go (found.Ring u z) (ring u′ z′ cs) q p m =
-        ap₂ (λ a b. some (ring a b (innerAt e w1 a f))) (cell-of 0 q) (cell-of 1 q)
-        ∙ ap (λ l. some (ring u′ z′ l)) (inner-of h (is-ring r c u′ z′ cs p .row) (inl refl) (m .0))
-    go (found.Chain u v z) (chain u′ v′ z′ cs) q p m =
-        let i = is-chain r c u′ v′ z′ cs p in
-        ap (λ a. some (chain a v z (innerAt e w1 a f))) (cell-of 0 q)
-        ∙ ap₂ (λ a b. some (chain u′ a b (innerAt e w1 u′ f))) (cell-of 1 q) (cell-of 2 q)
-        ∙ ap (λ l. some (chain u′ v′ z′ l)) (inner-of h (i .row) (inr (i .last-end)) (m .0))
-    go (found.Leaf v u) (ring u′ z′ cs) q p m = absurd (omega (arith, rule-of q))
-    go (found.Leaf v u) (chain u′ v′ z′ cs) q p m = absurd (omega (arith, rule-of q))
-    go (found.Ring u z) (leaf u′ v′) q p m = absurd (omega (arith, rule-of q))
-    go (found.Ring u z) (chain u′ v′ z′ cs) q p m = absurd (omega (arith, rule-of q))
-    go (found.Chain u v z) (leaf u′ v′) q p m = absurd (omega (arith, rule-of q))
-    go (found.Chain u v z) (ring u′ z′ cs) q p m = absurd (omega (arith, rule-of q))
-    go found.None (leaf u′ v′) q p m = absurd (omega (arith, rule-of q))
-    go found.None (ring u′ z′ cs) q p m = absurd (omega (arith, rule-of q))
-    go found.None (chain u′ v′ z′ cs) q p m = absurd (omega (arith, rule-of q))
+    go : (s : Step) → IsStep 1024 (graphOf e w1) r c s → Way e w1 (some s) (x .first) (x .slot)
+        → some (over (λ u. innerAt e w1 u (x .first)) s) ≡ some s
+    go (leaf u v) p m = refl
+    go (ring u z cs) p m =
+        ap (λ l. some (ring u z l)) (inner-of h (is-ring r c u z cs p .row) (inl refl) (m .0))
+    go (chain u v z cs) p m =
+        let i = is-chain r c u v z cs p in
+        ap (λ l. some (chain u v z l)) (inner-of h (i .row) (inr (i .last-end)) (m .0))
 
 -- What is known of the step that was found.
 record FoundStep (e : ℕ) (w1 w2 : List ℕ) (t : ℕ) (x : Found) (s : Step) : Type 0 where
@@ -440,10 +434,10 @@ record FoundStep (e : ℕ) (w1 w2 : List ℕ) (t : ℕ) (x : Found) (s : Step) :
   cell : ℕ
   is : IsStep 1024 (graphOf e w1) rule cell s
   way : Way e w1 (some s) (x .first) (x .slot)
-  room : t + length (stepWords (graphOf e w1) s) ≤ 4096
+  room : t + length (stepWords (graphOf e w1) s) ≤ trailRoom
 
-row-fits : (t : ℕ) (w : Points) (u : ℕ) (cs : List ℕ) (v k : ℕ) → t + length (rowWords w u cs v ++ k ∷ []) ≤ 4096
-    → t + length cs + 2 ≤ 4096
+row-fits : (t : ℕ) (w : Points) (u : ℕ) (cs : List ℕ) (v k : ℕ) → t + length (rowWords w u cs v ++ k ∷ []) ≤ trailRoom
+    → t + length cs + 2 ≤ trailRoom
 row-fits t w u cs v k l = omega (arith, length-append (rowWords w u cs v) (k ∷ []), length-row w u cs v)
 
 module _ {e : ℕ} {w1 w2 : List ℕ} {t : ℕ} {x : Found} (h : StepThere e w1 w2 t x) where

@@ -4,6 +4,7 @@ use mathlib.Core.List.{List, _++_}
 use mathlib.Core.Option.{some}
 use Prim.Native.Nat.{ℕ, _+_, _≤_, _<_}
 use lib.ListN.{length, getD, take}
+use Rattle.buffers.specs.Map.{trailRoom, atNames, unit}
 use Rattle.matching.specs.Steps.{Rule, Step, apply, carry}
 use Rattle.matching.specs.Shapes.{IsStep}
 use Rattle.slots.specs.Slots.{Holds, graphOf}
@@ -12,7 +13,7 @@ use Rattle.trail.specs.Trail.{stepWords}
 use Rattle.finding.specs.declared.Found.{Found}
 use Rattle.taking.specs.declared.Taken.{Taken}
 
--- What taking a step asks: it is found where it stands, there is room on the trail, points have 44 bits.
+-- What taking a step asks: it is found where it stands, there is room on the trail, points fit a row word.
 pub record StepThere (e : ℕ) (w1 w2 : List ℕ) (t : ℕ) (x : Found) : Type 0 where
   pub rule : Rule
   pub cell : ℕ
@@ -20,14 +21,14 @@ pub record StepThere (e : ℕ) (w1 w2 : List ℕ) (t : ℕ) (x : Found) : Type 0
   pub holds : Holds e w1 w2
   pub is : IsStep 1024 (graphOf e w1) rule cell step
   pub finds : Finds e w1 (some step) x
-  pub room : t + length (stepWords (graphOf e w1) step) ≤ 4096
-  pub fits : (a b : ℕ) → graphOf e w1 a b < 17592186044416
+  pub room : t + length (stepWords (graphOf e w1) step) ≤ trailRoom
+  pub fits : (a b : ℕ) → graphOf e w1 a b < unit
 
--- The graph is that after the step, its words stand on the trail; words from 6,144 on did not change.
+-- The graph is that after the step, its words stand on the trail; words from `atNames` on did not change.
 pub record StepTaken (e : ℕ) (w1 w2 w1′ w2′ : List ℕ) (t : ℕ) (s : Step) (r : Taken) : Type 0 where
   pub holds : Holds (r .slots) w1′ w2′
   pub graph : graphOf (r .slots) w1′ ≡ apply (graphOf e w1) s
   pub carried : r .carried ≡ carry (graphOf e w1) s
   pub words : r .trail ≡ t + length (stepWords (graphOf e w1) s)
   pub trail : take (r .trail) w2′ ≡ take t w2 ++ stepWords (graphOf e w1) s
-  pub aside : (j : ℕ) → 6144 ≤ j → getD w2′ j 0 ≡ getD w2 j 0
+  pub aside : (j : ℕ) → atNames ≤ j → getD w2′ j 0 ≡ getD w2 j 0

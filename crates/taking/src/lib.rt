@@ -4,6 +4,7 @@ use finding::Found;
 use putting;
 use slots::change;
 use trail;
+use trail::words;
 ghost use mathlib.Core.Path.{_≡_};
 ghost use mathlib.Core.Option.{some};
 ghost use Prim.Native.Nat.{_+_, _≤_};
@@ -82,7 +83,7 @@ fn take_leaf(
         (leaf u v) r ⌝ }
 {
     let carried = change::leaf(w1, w2, e, v, u, i);
-    w2[t] = trail::closing_word(LEAF, u, v, 0, 0, 0);
+    w2[t] = words::closing_word(LEAF, u, v, 0, 0, 0);
     Taken {
         slots: e,
         trail: t + 1,
@@ -110,7 +111,7 @@ fn take_ring(
     let end = t + pairs;
     let points = rows::ring_points(&w2[t..end]);
     let slots = putting::put_pair(w1, w2, cleared.slots, u, z, points.whole - points.less_u);
-    w2[end] = trail::closing_word(RING, u, 0, z, pairs, 0);
+    w2[end] = words::closing_word(RING, u, 0, z, pairs, 0);
     Taken {
         slots,
         trail: end + 1,
@@ -150,7 +151,7 @@ fn take_chain(
         points.less_u - q,
         points.less_v - q,
     );
-    w2[end] = trail::closing_word(CHAIN, u, v, z, pairs, raised.more);
+    w2[end] = words::closing_word(CHAIN, u, v, z, pairs, raised.more);
     Taken {
         slots: raised.slots,
         trail: end + 1,

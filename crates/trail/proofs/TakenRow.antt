@@ -12,6 +12,7 @@ use native.Mathlib.Numerals.{add-one}
 use lib.ListN.{length, getD, set, take, drop, length-drop}
 use lib.Seq.{length-take-le, getD-take, getD-drop, ext-getD, take-suc-set, append-snoc, getD-set-other}
 use borrow.Author.Tests.{eq-eqb, ne-eqb}
+use Rattle.buffers.specs.Map.{trailRoom, atNames, unit}
 use Rattle.matching.specs.Lists.{mem, distinct}
 use Rattle.matching.specs.Pairs.{Points}
 use Rattle.matching.specs.Graph.{partners, put}
@@ -52,7 +53,7 @@ drop-same w w′ t l h =
 
 pub pair-taken : {e : ℕ} {w1 w2 w1′ w2′ : List ℕ} {t prev i x : ℕ} → PairThere e w1 w2 t prev i
     → Changed e (put (lowOf w1 i) (highOf w1 i) 0 (graphOf e w1)) w1′ w2 w2′ → w1′ ≡ set w1 i 0
-    → length w2′ ≡ length w2 → x ≡ prev * 17592186044416 + getD w1 i 0
+    → length w2′ ≡ length w2 → x ≡ prev * unit + getD w1 i 0
     → PairTaken e w1 w2 w1′ (set w2′ t x) t prev i
 pair-taken {e} {w1} {w2} {w1′} {w2′} {t} {prev} {i} {x} p h q l z = record {
   holds = holds-trail (h .holds) t x (p .room);
@@ -85,13 +86,13 @@ pub record RowAhead (e : ℕ) (w1₀ w2₀ : List ℕ) (t u : ℕ) (inner : List
   pub apart : distinct rest ≡ true
   pub first-off : mem prev rest ≡ false
   pub last-off : mem v rest ≡ false
-  pub fits : (a b : ℕ) → graphOf e w1 a b < 17592186044416
+  pub fits : (a b : ℕ) → graphOf e w1 a b < unit
   pub count : k + length rest ≡ length inner
   pub trail : take (t + k) w2 ++ rowWords (graphOf e w1) prev rest v
       ≡ take t w2₀ ++ rowWords (graphOf e w1₀) u inner v
   pub left : gone (walk prev rest v) (graphOf e w1) ≡ gone (walk u inner v) (graphOf e w1₀)
   pub fewer : live e w1 + k ≡ live e w1₀
-  pub aside : (j : ℕ) → 6144 ≤ j → getD w2 j 0 ≡ getD w2₀ j 0
+  pub aside : (j : ℕ) → atNames ≤ j → getD w2 j 0 ≡ getD w2₀ j 0
 
 -- The rest of the row, of which `at` is the next cell.
 pub record Going (e : ℕ) (w1₀ w2₀ : List ℕ) (t u : ℕ) (inner : List ℕ) (v : ℕ) (w1 w2 : List ℕ) (prev at slot k : ℕ)
@@ -183,10 +184,10 @@ module _ {e : ℕ} {w1₀ w2₀ : List ℕ} {t u : ℕ} {inner : List ℕ} {v : 
     trail-on =
         ap (λ (j : ℕ). take j w2′ ++ rowWords (graphOf e w1′) c cs v) {x = t + (k + 1)} {y = t + k + 1} (omega arith)
         ∙ ap (λ (ws : List ℕ). ws ++ rowWords (graphOf e w1′) c cs v) (p .trail)
-        ∙ append-snoc (take (t + k) w2) (prev * 17592186044416 + getD w1 slot 0) (rowWords (graphOf e w1′) c cs v)
-        ∙ ap (λ (ws : List ℕ). take (t + k) w2 ++ (prev * 17592186044416 + getD w1 slot 0) ∷ ws)
+        ∙ append-snoc (take (t + k) w2) (prev * unit + getD w1 slot 0) (rowWords (graphOf e w1′) c cs v)
+        ∙ ap (λ (ws : List ℕ). take (t + k) w2 ++ (prev * unit + getD w1 slot 0) ∷ ws)
         (words-same g (graphOf e w1′) c cs v pair-kept agree)
-        ∙ ap (λ (x : ℕ). take (t + k) w2 ++ (prev * 17592186044416 + x) ∷ rowWords g c cs v)
+        ∙ ap (λ (x : ℕ). take (t + k) w2 ++ (prev * unit + x) ∷ rowWords g c cs v)
         (sym (joins-points (a .holds) (a .joins)))
         ∙ a .trail
 
@@ -221,7 +222,7 @@ module _ {e : ℕ} {w1₀ w2₀ : List ℕ} {t u : ℕ} {inner : List ℕ} {v : 
   pub going-two : at ≢ v → (k < length inner) × (length (partners 1024 (graphOf e w1) at) ≡ 2)
   going-two = rw (h .next) (ahead-two (h .rest) (h .ahead))
 
-  pub going-pair : t + length inner < 4096 → PairThere e w1 w2 (t + k) prev slot
+  pub going-pair : t + length inner < trailRoom → PairThere e w1 w2 (t + k) prev slot
   going-pair l = record {
     holds = h .ahead .holds;
     below = h .ahead .joins .below;
@@ -267,7 +268,7 @@ going-end {e} {w1₀} {w2₀} {t} {u} {f} {i} {v} r {w1} {w2} {prev} {at} {slot}
       trail =
           ap (λ (j : ℕ). take j w2′) {x = t + (k + 1)} {y = t + k + 1} (omega arith)
           ∙ p .trail
-          ∙ ap (λ (x : ℕ). take (t + k) w2 ++ (prev * 17592186044416 + x) ∷ [])
+          ∙ ap (λ (x : ℕ). take (t + k) w2 ++ (prev * unit + x) ∷ [])
           (sym (joins-points (a .holds) (a .joins)))
           ∙ a .trail;
       fewer = omega (arith, a .fewer, p .fewer);

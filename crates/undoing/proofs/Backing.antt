@@ -22,10 +22,9 @@ use Rattle.matching.proofs.Behind.{left-append}
 use Rattle.matching.proofs.Reduce.{replay-fits, replay-more}
 use Rattle.matching.proofs.Demand.{slip-graph}
 use Rattle.trail.specs.Trail.{stepWords, trail}
-use Rattle.trail.proofs.Trail.{trail-append}
+use Rattle.trail.proofs.Trail.{trail-append, step-some}
 use Rattle.partners.specs.Table.{Mates}
 use Rattle.undoing.specs.Back.{UndoThere, Undone, BackThere, Lifted}
-use Rattle.undoing.proofs.Closing.{step-some}
 
 -- ---- a slip without its last step
 

@@ -9,6 +9,7 @@ use mathlib.Core.List.{List}
 use Prim.Native.Nat.{ℕ, _≤_, _<_}
 use native.Mathlib.Omega.{arith}
 use lib.ListN.{length, getD}
+use Rattle.buffers.specs.Map.{trailRoom}
 use Rattle.matching.specs.Pairs.{Pair, sum, keep, same, like, held, without}
 use Rattle.matching.specs.Pairing.{Once}
 use Rattle.matching.proofs.Tests.{Test, pass, fail, ltT, holds}
@@ -82,7 +83,7 @@ module _ (w2 : List ℕ) (r : 8192 ≤ length w2) (u z : ℕ) (p : u < 1024) (q 
     abbrev m₂ : List Pair
     m₂ = without v z m₁
 
-    table-each : {w2′ : List ℕ} → Mates w2′ (unless d u v m₂) → ((j : ℕ) → j < 4096 → getD w2′ j 0 ≡ getD w2 j 0)
+    table-each : {w2′ : List ℕ} → Mates w2′ (unless d u v m₂) → ((j : ℕ) → j < trailRoom → getD w2′ j 0 ≡ getD w2 j 0)
         → TableOf w2 w2′ (chainStays u v z d m)
     table-each {w2′} k a =
         subst (TableOf w2 w2′) (sym (stays-each u v z d m)) (record { mates = k; aside = a })

@@ -1,7 +1,7 @@
--- Putting the marked pairs of a row into the table, the last first. In order: the pairs of a row by its words
--- (`row-pairs`); words of the trail that did not change (`words-same`); the loop, whose state is that the pairs from
--- place j on are in the table (`Putting`): before it (`put-none`), what its call asks (`put-asks`), one pair more
--- (`put-more`), and after it (`put-all`). Assumes nothing.
+-- Putting the marked pairs of a row into the table, the last first. In order: words of the trail
+-- that did not change (`words-same`); the loop, whose state is that the pairs from place j on are in the table
+-- (`Putting`): before it (`put-none`), what its call asks (`put-asks`), one pair more (`put-more`), and after it
+-- (`put-all`). Assumes nothing.
 use mathlib.Core.Path.{_≡_, refl, sym, ap, ap₂, subst, _∙_}
 use mathlib.Core.Bool.{Bool, true, false, cond}
 use mathlib.Core.List.{List, [], _∷_, _++_}
@@ -9,42 +9,24 @@ use Prim.Native.Nat.{ℕ, zero, suc, _+_, _-_, _≤_, _<_}
 use native.Mathlib.Omega.{arith}
 use lib.Dec.{eqb}
 use lib.ListN.{length, getD, set, take, drop, length-set, length-drop}
-use lib.Seq.{length-take-le, drop-length, drop-cons, getD-take, getD-drop, ext-getD}
+use lib.Seq.{length-take-le, drop-length, drop-cons, getD-take, getD-drop}
+use Rattle.buffers.specs.Map.{trailRoom, atTable}
 use Rattle.matching.specs.Pairs.{Pair, Points, sum, Each, hit}
 use Rattle.matching.specs.Pairing.{Once}
-use Rattle.matching.specs.Best.{walk}
 use Rattle.matching.proofs.Sums.{sum-append}
-use Rattle.rows.specs.Row.{rowWords, marked}
+use Rattle.rows.specs.Row.{marked}
 use Rattle.partners.specs.Table.{TrailKept}
-use Rattle.undoing.specs.Unwinding.{joined, TableOf, cellOf, startOf, rowPairs, wordsAt, PutThere}
+use Rattle.trail.specs.Trail.{cellOf, startOf, rowPairs}
+use Rattle.trail.proofs.TakenRow.{take-same}
+use Rattle.undoing.specs.Unwinding.{joined, TableOf, wordsAt, PutThere}
 use Rattle.undoing.proofs.Mating.{joined-aside, mates-join}
 
--- ---- the pairs of a row by its words
-
-row-start : (w : Points) (u : ℕ) (cs : List ℕ) (v : ℕ) → Each (λ a b. w a b < 17592186044416) (walk u cs v)
-    → startOf (rowWords w u cs v) v ≡ u
-row-start w u [] v p = omega (arith, p .0)
-row-start w u (c ∷ cs) v p = omega (arith, p .0)
-
-pub row-pairs : (w : Points) (u : ℕ) (cs : List ℕ) (v : ℕ) → Each (λ a b. w a b < 17592186044416) (walk u cs v)
-    → rowPairs (rowWords w u cs v) v ≡ walk u cs v
-row-pairs w u [] v p = ap (λ x. (x, v) ∷ []) (row-start w u [] v p)
-row-pairs w u (c ∷ cs) v p =
-    ap₂ (λ (e : Pair) es. e ∷ es)
-    (ap₂ (λ (x y : ℕ). (x, y)) (row-start w u (c ∷ cs) v p) (row-start w c cs v (p .1)))
-    (row-pairs w c cs v (p .1))
-
-pub words-same : (a k : ℕ) (w2 w2′ : List ℕ) → TrailKept w2 w2′ → a + k ≤ 4096 → 8192 ≤ length w2
+pub words-same : (a k : ℕ) (w2 w2′ : List ℕ) → TrailKept w2 w2′ → a + k ≤ trailRoom → 8192 ≤ length w2
     → length w2′ ≡ length w2 → take k (drop a w2′) ≡ take k (drop a w2)
 words-same a k w2 w2′ h l r s =
-    let n : length (take k (drop a w2)) ≡ k = length-take-le k (drop a w2) (omega (arith, length-drop a w2)) in
-    let n′ : length (take k (drop a w2′)) ≡ k = length-take-le k (drop a w2′) (omega (arith, length-drop a w2′)) in
-    ext-getD 0 (take k (drop a w2′)) (take k (drop a w2)) (n′ ∙ sym n)
-    (λ i q. let q′ : i < k = omega arith in
-    getD-take k (drop a w2′) i 0 q′
-    ∙ getD-drop a w2′ i 0
-    ∙ h (a + i) (omega arith)
-    ∙ sym (getD-take k (drop a w2) i 0 q′ ∙ getD-drop a w2 i 0))
+    take-same (drop a w2) (drop a w2′) k (omega (arith, length-drop a w2, length-drop a w2′))
+    (omega (arith, length-drop a w2))
+    (λ j m. getD-drop a w2′ j 0 ∙ h (a + j) (omega arith) ∙ sym (getD-drop a w2 j 0))
 
 -- ---- the loop
 
@@ -162,8 +144,8 @@ module _ {a v : ℕ} {marks w2₀ : List ℕ} (p : PutThere a v marks w2₀) whe
       }
         where
           len : (t : Bool) → length (cond t (joined from to w2) w2) ≡ length w2
-          len true = length-set (set w2 (4096 + from) (to + 1)) (4096 + to) (from + 1)
-              ∙ length-set w2 (4096 + from) (to + 1)
+          len true = length-set (set w2 (atTable + from) (to + 1)) (atTable + to) (from + 1)
+              ∙ length-set w2 (atTable + from) (to + 1)
           len false = refl
 
           go : (t : Bool) → Once (cond t ((from, to) ∷ from-place (suc i)) (from-place (suc i)) ++ m)

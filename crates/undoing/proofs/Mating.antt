@@ -11,6 +11,7 @@ use lib.Dec.{eqb}
 use lib.ListN.{length, getD, set, length-set}
 use lib.Seq.{getD-set-same, getD-set-other}
 use borrow.Author.Tests.{eq-eqb, ne-eqb}
+use Rattle.buffers.specs.Map.{atTable}
 use Rattle.matching.specs.Pairs.{Pair, sum, hit, like, held, free, without}
 use Rattle.matching.specs.Pairing.{Once, mate, partner}
 use Rattle.matching.proofs.Tests.{Test, pass, fail, eqT, ltT}
@@ -30,20 +31,20 @@ join-not k x y w2 e = rw (ne-eqb k 1 e)
 
 module _ (w2 : List ℕ) (x y k l : ℕ) where
   abbrev after : List ℕ
-  after = set (set w2 (4096 + x) k) (4096 + y) l
+  after = set (set w2 (atTable + x) k) (atTable + y) l
 
-  two-last : 8192 ≤ length w2 → y < 1024 → getD after (4096 + y) 0 ≡ l
+  two-last : 8192 ≤ length w2 → y < 1024 → getD after (atTable + y) 0 ≡ l
   two-last r p =
-      getD-set-same (set w2 (4096 + x) k) (4096 + y) l 0 (omega (arith, length-set w2 (4096 + x) k))
+      getD-set-same (set w2 (atTable + x) k) (atTable + y) l 0 (omega (arith, length-set w2 (atTable + x) k))
 
-  two-first : 8192 ≤ length w2 → x < 1024 → x ≢ y → getD after (4096 + x) 0 ≡ k
+  two-first : 8192 ≤ length w2 → x < 1024 → x ≢ y → getD after (atTable + x) 0 ≡ k
   two-first r p n =
-      getD-set-other (set w2 (4096 + x) k) (4096 + y) (4096 + x) l 0 (λ q. n (omega arith))
-      ∙ getD-set-same w2 (4096 + x) k 0 (omega arith)
+      getD-set-other (set w2 (atTable + x) k) (atTable + y) (atTable + x) l 0 (λ q. n (omega arith))
+      ∙ getD-set-same w2 (atTable + x) k 0 (omega arith)
 
-  two-else : (j : ℕ) → j ≢ 4096 + x → j ≢ 4096 + y → getD after j 0 ≡ getD w2 j 0
+  two-else : (j : ℕ) → j ≢ atTable + x → j ≢ atTable + y → getD after j 0 ≡ getD w2 j 0
   two-else j p q =
-      getD-set-other (set w2 (4096 + x) k) (4096 + y) j l 0 q ∙ getD-set-other w2 (4096 + x) j k 0 p
+      getD-set-other (set w2 (atTable + x) k) (atTable + y) j l 0 q ∙ getD-set-other w2 (atTable + x) j k 0 p
 
   two-aside : TrailKept w2 after
   two-aside j p = two-else j (λ q. omega arith) (λ q. omega arith)
@@ -74,7 +75,7 @@ module _ (w2 : List ℕ) (m : List Pair) (x y : ℕ) (r : 8192 ≤ length w2) (p
   mates-join o c l = go (eqT x c) (eqT y c)
     where
       now : ℕ → ℕ
-      now d = getD (joined x y w2) (4096 + d) 0
+      now d = getD (joined x y w2) (atTable + d) 0
 
       alone : (x ≡ c) ⊎ (y ≡ c) → partner c m ≡ 0
       alone e = partner-none c m (omega (arith, o c, hit-some c x y e))
@@ -89,14 +90,14 @@ module _ (w2 : List ℕ) (m : List Pair) (x y : ℕ) (r : 8192 ≤ length w2) (p
           ∙ two-last w2 x y (y + 1) (x + 1) r q
           ∙ omega (arith, ap (λ b. mate c x b) e, mate-right c x, alone (inr e))
       go (fail i) (fail j) =
-          two-else w2 x y (y + 1) (x + 1) (4096 + c) (λ e. i (omega arith)) (λ e. j (omega arith))
+          two-else w2 x y (y + 1) (x + 1) (atTable + c) (λ e. i (omega arith)) (λ e. j (omega arith))
           ∙ omega (arith, h c l, mate-else c x y i j)
 
   pub mates-part : Once m → 1 ≤ sum (like x y) m → Mates (parted x y w2) (without x y m)
   mates-part o k c l = go (eqT x c) (eqT y c)
     where
       now : ℕ → ℕ
-      now d = getD (parted x y w2) (4096 + d) 0
+      now d = getD (parted x y w2) (atTable + d) 0
 
       alone : (x ≡ c) ⊎ (y ≡ c) → 0 ≡ partner c (without x y m)
       alone e = sym (partner-none c (without x y m) (held-free x y m o k c e))
@@ -106,7 +107,7 @@ module _ (w2 : List ℕ) (m : List Pair) (x y : ℕ) (r : 8192 ≤ length w2) (p
       go (pass e) (fail j) =
           ap now (sym e) ∙ two-first w2 x y 0 0 r p (λ f. j (sym f ∙ e)) ∙ alone (inl e)
       go (fail i) (fail j) =
-          two-else w2 x y 0 0 (4096 + c) (λ e. i (omega arith)) (λ e. j (omega arith))
+          two-else w2 x y 0 0 (atTable + c) (λ e. i (omega arith)) (λ e. j (omega arith))
           ∙ omega (arith, h c l, mate-else c x y i j, held-sum x y m o k (mate c) (mate-turned c))
 
 pub mates-without : (w2 : List ℕ) (m : List Pair) (x y : ℕ) → Mates w2 m → sum (like x y) m ≡ 0
@@ -143,7 +144,7 @@ partners-held x y m o = go (partner-view x m) (ltT 0 (sum (like x y) m))
         omega (arith, ap (λ d. sum (like x d) m) q))
 
 pub table-held : (w2 : List ℕ) (x y : ℕ) → x < 1024 → (m : List Pair) → Once m → Mates w2 m
-    → eqb (getD w2 (4096 + x) 0) (y + 1) ≡ held x y m
+    → eqb (getD w2 (atTable + x) 0) (y + 1) ≡ held x y m
 table-held w2 x y p m o h = ap (λ (k : ℕ). eqb k (y + 1)) (h x p) ∙ partners-held x y m o
 
 -- a pair of a free cell is not held

@@ -12,6 +12,7 @@ use borrow.Author.Tests.{eq-eqb, ne-eqb}
 use lib.Dec.{eqb}
 use lib.ListN.{length, getD, take, drop, length-drop, length-replicate}
 use lib.Seq.{length-take-le}
+use Rattle.buffers.specs.Map.{trailRoom, atTable}
 use Rattle.matching.specs.Pairs.{Pair, Points, Each, keep, free}
 use Rattle.matching.specs.Pairing.{Once}
 use Rattle.matching.specs.Best.{best, tie, walk}
@@ -23,13 +24,15 @@ use Rattle.matching.proofs.Segment.{row-below}
 use Rattle.matching.proofs.Find.{is-fits}
 use Rattle.matching.proofs.Exact.{step-lifted}
 use Rattle.rows.specs.Row.{rowWords, RowOf, unmarked, Blank, marked, less, RowBest}
-use Rattle.rows.proofs.Parts.{length-row}
-use Rattle.undoing.specs.Unwinding.{joined, TableOf, rowPairs, wordsAt, PutThere, ChainFreed, RingFreed, StepBack}
+use Rattle.rows.proofs.Parts.{length-row, row-few}
+use Rattle.trail.specs.Trail.{rowPairs}
+use Rattle.trail.proofs.Trail.{row-pairs}
+use Rattle.undoing.specs.Unwinding.{joined, TableOf, wordsAt, PutThere, ChainFreed, RingFreed, StepBack}
 use Rattle.undoing.specs.Unwinding.{LeafBack, RingBack, ChainBack}
 use Rattle.partners.specs.Table.{Mates, TrailKept}
 use Rattle.undoing.specs.declared.Ends.{Ends}
 use Rattle.undoing.proofs.Mating.{joined-aside, mates-join, partner-free}
-use Rattle.undoing.proofs.Marking.{row-pairs, words-same}
+use Rattle.undoing.proofs.Marking.{words-same}
 
 -- ---- a step
 
@@ -52,17 +55,17 @@ module _ {u v : ℕ} {w2 : List ℕ} (b : LeafBack u v w2) where
       let p = pair-below (step-leaf .graph) u v (f .pair) in
       (step-leaf .room2, omega (arith, p .0, step-leaf .cells), omega (arith, p .1, step-leaf .cells))
 
-  free-is : {t : Bool} → eqb (getD w2 (4096 + u) 0) 0 ≡ t → free u (b .pairs) ≡ t
+  free-is : {t : Bool} → eqb (getD w2 (atTable + u) 0) 0 ≡ t → free u (b .pairs) ≡ t
   free-is e =
       sym (partner-free u (b .pairs) (step-leaf .pairing .once))
       ∙ ap (λ (k : ℕ). eqb k 0) (sym (step-leaf .mates u (leaf-below .1)))
       ∙ e
 
-  pub leaf-free : {w2′ : List ℕ} → getD w2 (4096 + u) 0 ≡ 0 → w2′ ≡ joined u v w2
+  pub leaf-free : {w2′ : List ℕ} → getD w2 (atTable + u) 0 ≡ 0 → w2′ ≡ joined u v w2
       → TableOf w2 w2′ (undo (b .w) (leaf u v) (b .pairs))
   leaf-free {w2′} e q =
       let is : undo (b .w) (leaf u v) (b .pairs) ≡ (u, v) ∷ b .pairs =
-      rw (free-is (eq-eqb (getD w2 (4096 + u) 0) 0 e)) (ap (λ (l : List Pair). (u, v) ∷ l) (keep-all (b .pairs))) in
+      rw (free-is (eq-eqb (getD w2 (atTable + u) 0) 0 e)) (ap (λ (l : List Pair). (u, v) ∷ l) (keep-all (b .pairs))) in
       let l = leaf-below in
       subst (TableOf w2 w2′) (sym is)
       (subst (λ (xs : List ℕ). TableOf w2 xs ((u, v) ∷ b .pairs)) (sym q)
@@ -73,10 +76,10 @@ module _ {u v : ℕ} {w2 : List ℕ} (b : LeafBack u v w2) where
         aside = joined-aside w2 u v;
       }))
 
-  pub leaf-paired : getD w2 (4096 + u) 0 ≢ 0 → TableOf w2 w2 (undo (b .w) (leaf u v) (b .pairs))
+  pub leaf-paired : getD w2 (atTable + u) 0 ≢ 0 → TableOf w2 w2 (undo (b .w) (leaf u v) (b .pairs))
   leaf-paired e =
       let is : undo (b .w) (leaf u v) (b .pairs) ≡ b .pairs =
-      rw (free-is (ne-eqb (getD w2 (4096 + u) 0) 0 e)) (keep-all (b .pairs)) in
+      rw (free-is (ne-eqb (getD w2 (atTable + u) 0) 0 e)) (keep-all (b .pairs)) in
       subst (TableOf w2 w2) (sym is) (record { mates = step-leaf .mates; aside = λ j l. refl })
 
 -- ---- the row of a ring or a chain
@@ -86,7 +89,7 @@ pub record RowBack (a : ℕ) (marks w2 : List ℕ) (w : Points) (s : Step) (m : 
     : Type 0 where
   back : StepBack w2 w s m
   segment : Segment w u inner v
-  on-trail : a + length marks ≤ 4096
+  on-trail : a + length marks ≤ trailRoom
   words : wordsAt a marks w2 ≡ rowWords w u inner v
 
 module _ {a : ℕ} {marks w2 : List ℕ} {w : Points} {s : Step} {m : List Pair} {u : ℕ} {inner : List ℕ} {v : ℕ}
@@ -117,12 +120,13 @@ module _ {a : ℕ} {marks w2 : List ℕ} {w : Points} {s : Step} {m : List Pair}
         ∙ b .words
 
     row-asks : {none : List ℕ} → none ≡ unmarked (length marks)
-        → (3 ≤ length lent) × (length lent ≤ 8192) × (length none ≡ length lent) × Blank none
+        → (3 ≤ length lent) × (length lent ≤ 1024) × (length none ≡ length lent) × Blank none
     row-asks {none} e =
         let l : length lent ≡ suc (length inner) = ap length row-lent ∙ length-row w u inner v in
+        let low = row-below (b .back .graph) (b .segment) in
         let n : length none ≡ length marks = ap length e ∙ length-replicate (length marks) 0 in (
           omega (arith, b .segment .more),
-          omega (arith, row-count, b .on-trail),
+          omega (arith, row-few (b .back .n) u inner (b .segment .apart) (b .segment .first-off) (low .0) (low .2)),
           n ∙ row-count ∙ sym l,
           e ∙ ap unmarked (sym n),
         )
@@ -201,7 +205,7 @@ module _ {a u z : ℕ} {marks w2 : List ℕ} (b : RingBack a u z marks w2) where
 
     pub ring-asks : {none : List ℕ} → none ≡ unmarked (length marks)
         → (3 ≤ length (take (a + length marks - a) (drop a w2a)))
-        × (length (take (a + length marks - a) (drop a w2a)) ≤ 8192)
+        × (length (take (a + length marks - a) (drop a w2a)) ≤ 1024)
         × (length none ≡ length (take (a + length marks - a) (drop a w2a))) × Blank none
     ring-asks = row-asks ring-row w2a (ring-freed .table .aside) same
 
@@ -253,7 +257,7 @@ module _ {a u v z : ℕ} {more : Bool} {marks w2 : List ℕ} (b : ChainBack a u 
 
     pub chain-asks : {none : List ℕ} → none ≡ unmarked (length marks)
         → (3 ≤ length (take (a + length marks - a) (drop a w2a)))
-        × (length (take (a + length marks - a) (drop a w2a)) ≤ 8192)
+        × (length (take (a + length marks - a) (drop a w2a)) ≤ 1024)
         × (length none ≡ length (take (a + length marks - a) (drop a w2a))) × Blank none
     chain-asks = row-asks chain-row w2a (chain-freed .table .aside) same
 

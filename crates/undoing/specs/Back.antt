@@ -1,11 +1,12 @@
 -- The way back on a table of partners. Inner contracts cite this.
 --
--- Second buffer: the trail from 0 on, and from 4,096 on for each cell 0, or its partner's number and 1.
+-- The table stands in the second buffer behind the trail: for each cell 0, or its partner's number and 1.
 use mathlib.Core.Path.{_≡_}
 use mathlib.Core.List.{List, _++_, map}
 use mathlib.Core.Option.{some}
 use Prim.Native.Nat.{ℕ, _≤_, _<_}
 use lib.ListN.{length, take}
+use Rattle.buffers.specs.Map.{trailRoom, unit}
 use Rattle.matching.specs.Pairs.{Pair, Points}
 use Rattle.matching.specs.Pairing.{Pairing}
 use Rattle.matching.specs.Graph.{Graph}
@@ -19,7 +20,7 @@ use Rattle.partners.specs.Table.{Mates}
 pub record Rooms (t : ℕ) (w1 w2 : List ℕ) : Type 0 where
   pub room1 : 8192 ≤ length w1
   pub room2 : 8192 ≤ length w2
-  pub most : t ≤ 4096
+  pub most : t ≤ trailRoom
 
 -- The last step on the trail of t words, as it stood on the graph w, and a pairing of the graph after it.
 pub record UndoThere (t : ℕ) (w1 w2 : List ℕ) : Type 0 where
@@ -32,7 +33,7 @@ pub record UndoThere (t : ℕ) (w1 w2 : List ℕ) : Type 0 where
   pub cells : n ≤ 1024
   pub graph : Graph n w
   pub is : IsStep n w (name step .0) (name step .1) step
-  pub small : (a b : ℕ) → w a b < 17592186044416
+  pub small : (a b : ℕ) → w a b < unit
   pub trail : take t w2 ≡ rest ++ stepWords w step
   pub pairing : Pairing (apply w step) pairs
   pub mates : Mates w2 pairs

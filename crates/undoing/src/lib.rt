@@ -1,34 +1,32 @@
 // Inner, for lifting: the way back through the steps on the trail, on the table of partners. See specs/Back, and
 // specs/Unwinding for its parts.
 use buffers::clear;
+use buffers::map::TABLE;
 use finding::Step;
+use trail::words;
 ghost use mathlib.Core.Path.{_≡_};
 ghost use mathlib.Core.Bool.{cond};
 ghost use mathlib.Core.List.{List, _++_};
-ghost use mathlib.Core.Option.{some};
 ghost use Prim.Native.Nat.{_≤_, _<_};
 ghost use lib.Dec.{eqb};
 ghost use lib.ListN.{length};
-ghost use Rattle.matching.specs.Pairs.{Pair, Points, held};
+ghost use Rattle.matching.specs.Pairs.{Pair, held};
 ghost use Rattle.matching.specs.Pairing.{Once};
-ghost use Rattle.matching.specs.Steps.{Step as DefinedStep, leaf, ring, chain, undo};
+ghost use Rattle.matching.specs.Steps.{leaf, ring, chain, undo};
 ghost use Rattle.rows.specs.Row.{marked};
-ghost use Rattle.finding.specs.Finding.{told, toTell};
+ghost use Rattle.trail.specs.Trail.{rowPairs};
 ghost use Rattle.partners.specs.Table.{Mates};
 ghost use Rattle.undoing.specs.Back.{UndoThere, Undone, BackThere, Lifted};
-ghost use Rattle.undoing.specs.Unwinding.{joined, parted, TableOf, cellOf, rowPairs, wordsAt, PutThere};
-ghost use Rattle.undoing.specs.Unwinding.{ChainFreed, RingFreed, closingOf, Closable, pairsIn, moreIn, LeafBack};
-ghost use Rattle.undoing.specs.Unwinding.{RingBack, ChainBack};
-
-const MATES: usize = 4096;
+ghost use Rattle.undoing.specs.Unwinding.{joined, parted, TableOf, wordsAt, PutThere, ChainFreed, RingFreed};
+ghost use Rattle.undoing.specs.Unwinding.{LeafBack, RingBack, ChainBack};
 
 // The pair x, y comes into the table.
 fn join(w2: &mut [u64], x: usize, y: usize)
     requires { ⌜ (8192 ≤ length (now w2)) × (x < 1024) × (y < 1024) ⌝ }
     ensures { λ _. ⌜ now (w2 .exit) ≡ joined x y (now (w2 .entry)) ⌝ }
 {
-    w2[MATES + x] = y as u64 + 1;
-    w2[MATES + y] = x as u64 + 1;
+    w2[TABLE + x] = y as u64 + 1;
+    w2[TABLE + y] = x as u64 + 1;
 }
 
 // The pair x, y goes out of the table.
@@ -36,8 +34,8 @@ fn part(w2: &mut [u64], x: usize, y: usize)
     requires { ⌜ (8192 ≤ length (now w2)) × (x < 1024) × (y < 1024) ⌝ }
     ensures { λ _. ⌜ now (w2 .exit) ≡ parted x y (now (w2 .entry)) ⌝ }
 {
-    w2[MATES + x] = 0;
-    w2[MATES + y] = 0;
+    w2[TABLE + x] = 0;
+    w2[TABLE + y] = 0;
 }
 
 // The pair x, y comes into the table where the mark is 1.
@@ -48,15 +46,6 @@ fn join_marked(w2: &mut [u64], mark: u64, x: usize, y: usize)
     if mark == 1 {
         join(w2, x, y);
     }
-}
-
-const POINTS_UNIT: u64 = 17592186044416;
-
-// The cell that a pair of a row starts from, by its word.
-fn cell_of(word: u64) -> usize
-    ensures { λ r. ⌜ r ≡ cellOf word ⌝ }
-{
-    (word / POINTS_UNIT) as usize
 }
 
 // The marked pairs of the row whose words stand on the trail from place a on, to its end v, come into the table, the
@@ -71,7 +60,7 @@ fn put_marked(marks: &[u64], w2: &mut [u64], a: usize, v: usize)
     let mut j = marks.len();
     while 0 < j {
         j -= 1;
-        let from = cell_of(w2[a + j]);
+        let from = words::cell_of(w2[a + j]);
         join_marked(w2, marks[j], from, to);
         to = from;
     }
@@ -82,7 +71,7 @@ fn are_partners(w2: &[u64], x: usize, y: usize) -> bool
     requires { ⌜ (8192 ≤ length (now w2)) × (x < 1024) × (y < 1024) ⌝ }
     ensures { λ r. ⌜ ((m : List Pair) → Once m → Mates (now (w2 .entry)) m → r ≡ held x y m) ⌝ }
 {
-    w2[MATES + x] == y as u64 + 1
+    w2[TABLE + x] == y as u64 + 1
 }
 
 // Which ends of a chain its part leaves free.
@@ -147,7 +136,7 @@ fn undo_leaf(w2: &mut [u64], u: usize, v: usize)
     ensures { λ _. ⌜ ((b : LeafBack u v (now (w2 .entry))) → TableOf (now (w2 .entry)) (now (w2 .exit))
         (undo (b .w) (leaf u v) (b .pairs))) ⌝ }
 {
-    if w2[MATES + u] == 0 {
+    if w2[TABLE + u] == 0 {
         join(w2, u, v);
     }
 }
@@ -178,55 +167,6 @@ fn undo_chain(marks: &mut [u64], w2: &mut [u64], a: usize, u: usize, v: usize, z
     put_marked(marks, w2, a, v);
 }
 
-// The places of the closing word's parts: see crate steps, specs/Trail.
-const RULES: u64 = 4;
-
-const CELLS: u64 = 1024;
-
-const CELL_U: u64 = 4;
-
-const CELL_V: u64 = 4096;
-
-const CELL_Z: u64 = 4194304;
-
-const PAIRS: u64 = 4294967296;
-
-const MORE: u64 = 35184372088832;
-
-// The number of pairs in the step's row.
-fn pairs_of(word: u64) -> usize
-    ensures { λ r. ⌜ r ≡ pairsIn word ⌝ }
-{
-    (word / PAIRS % (MORE / PAIRS)) as usize
-}
-
-// Whether the direct pair of a chain stays.
-fn more_of(word: u64) -> bool
-    ensures { λ r. ⌜ r ≡ moreIn word ⌝ }
-{
-    word / MORE == 1
-}
-
-// The step that a word closes.
-fn step_of(word: u64) -> Step
-    ensures { λ r. ⌜ ((w : Points) (s : DefinedStep) → Closable s → word ≡ closingOf w s → told r ≡ toTell (some s)) ⌝ }
-{
-    let rule = word % RULES;
-    let u = (word / CELL_U % CELLS) as usize;
-    let v = (word / CELL_V % CELLS) as usize;
-    let z = (word / CELL_Z % CELLS) as usize;
-    if rule == 1 {
-        return Step::Leaf { v, u };
-    }
-    if rule == 2 {
-        return Step::Ring { u, z };
-    }
-    if rule == 3 {
-        return Step::Chain { u, v, z };
-    }
-    Step::None
-}
-
 // Undoes the last step on the trail of t words: the words of the trail that are left.
 fn undo_step(w1: &mut [u64], w2: &mut [u64], t: usize) -> usize
     requires { ⌜ UndoThere t (now w1) (now w2) ⌝ }
@@ -234,10 +174,10 @@ fn undo_step(w1: &mut [u64], w2: &mut [u64], t: usize) -> usize
         → Undone t (now (w1 .entry)) (now (w2 .entry)) (now (w2 .exit)) r u) ⌝ }
 {
     let word = w2[t - 1];
-    let k = pairs_of(word);
+    let k = words::pairs_of(word);
     let a = t - 1 - k;
-    let more = more_of(word);
-    let step = step_of(word);
+    let more = words::more_of(word);
+    let step = words::step_of(word);
     match step {
         Step::Leaf { v, u } => {
             undo_leaf(w2, u, v);

@@ -5,8 +5,8 @@ use mathlib.Core.List.{List, [], _∷_}
 use Prim.Native.Nat.{ℕ}
 use lib.Dec.{eqb, ltb}
 use lib.ListN.{getD}
-use Rattle.cellfile.specs.Files.{storeList, countOf, readEntries}
-use Rattle.checks.specs.Refusals.{first, listRows}
+use Rattle.cellfile.specs.Files.{countOf, entriesAll, asFields}
+use Rattle.checks.specs.Refusals.{first, lists, listRows}
 use Rattle.cellfile.specs.Answers.{Answer}
 use Rattle.view.specs.declared.Served.{Served}
 use Rattle.view.specs.declared.Served.the-variants.{Entry, Nothing}
@@ -19,10 +19,10 @@ served Nothing = (0, [])
 -- The entry at a place of the list.
 unfoldable pub serving : List ℕ → ℕ → Answer
 serving list place =
-    cond (eqb (first (listRows storeList list)) 0 && ltb place (countOf list))
-    (1, getD (readEntries storeList list) place []) (0, [])
+    cond (eqb (first (listRows lists list)) 0 && ltb place (countOf list))
+    (1, asFields (getD (entriesAll list) place (0, 0, 0))) (0, [])
 
 -- How many entries a view of the list shows. Of a view with this number what is served is the entry at the place; a
 -- view's fields are private, so there is no other.
 unfoldable pub shown : List ℕ → ℕ
-shown list = cond (eqb (first (listRows storeList list)) 0) (countOf list) 0
+shown list = cond (eqb (first (listRows lists list)) 0) (countOf list) 0

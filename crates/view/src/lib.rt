@@ -27,21 +27,23 @@ fn shown(list: &[u8]) -> usize
     }
 }
 
-// The entry at a place below the count.
+// The entry at a place below the count. Whatever the count, it is read within the list.
 fn served_at(list: &[u8], count: usize, place: usize) -> Served
     ensures { λ r. ⌜ (count ≡ shownOf (now (list .entry)) → served r ≡ serving (now (list .entry)) place) ⌝ }
 {
     if count <= place {
         return Served::Nothing;
     }
-    if list.len() < 9 {
+    let h = decode::header_at(list);
+    let m = h.m;
+    if m <= place {
         return Served::Nothing;
     }
-    if (list.len() - 9) / 5 < place {
+    if list.len() < decode::list_length(list, m) {
         return Served::Nothing;
     }
-    let at = 4 + 5 * place;
-    let e = decode::entry_at(&list[at..]);
+    let shape = decode::shape_of(list);
+    let e = decode::list_entry(list, shape, place);
     Served::Entry {
         a: e.a,
         b: e.b,

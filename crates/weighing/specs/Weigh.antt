@@ -2,8 +2,9 @@
 use Prim.Native.Nat.{ℕ}
 use mathlib.Core.List.{List, [], _∷_, _++_}
 use Rattle.matching.specs.Listed.{joined, points}
-use Rattle.cellfile.specs.Files.{storeList, cellsOf, entriesOf, pairsOf}
-use Rattle.checks.specs.Refusals.{Row, first, fewWords, listRows, badPairing, noPairing}
+use Rattle.cellfile.specs.Files.{cellsOf, entriesAll, pairsOf}
+use Rattle.checks.specs.Refusals.{Row, first, fewWords, badPairing, noPairing}
+use Rattle.checks.specs.Calls.{callRows}
 use Rattle.cellfile.specs.Answers.{Answer, answer}
 use Rattle.weighing.specs.declared.Weighed.{Weighed}
 use Rattle.weighing.specs.declared.Weighed.the-variants as weighs
@@ -13,20 +14,19 @@ abbrev pub weighed : Weighed → Answer
 weighed (weighs.Refused k) = (k, [])
 weighed (weighs.Points p) = (0, p ∷ [])
 
--- Refusals 9 and 10 of a pairing. It is for the entries of the list, those of zero points too.
+-- Refusals 9 and 10 of a pairing. It is for all entries of the list, those of zero points too.
 abbrev pub formRow : List ℕ → List ℕ → Row
 formRow list pairing = (9, badPairing (cellsOf list) pairing)
 
 abbrev pub pairRow : List ℕ → List ℕ → Row
-pairRow list pairing = (10, noPairing (joined (entriesOf storeList list)) (pairsOf pairing))
+pairRow list pairing = (10, noPairing (joined (entriesAll list)) (pairsOf pairing))
 
 -- The pairing's points, as the one value of the answer.
 abbrev pub weight : List ℕ → List ℕ → List ℕ
-weight list pairing = points (entriesOf storeList list) (pairsOf pairing) ∷ []
+weight list pairing = points (entriesAll list) (pairsOf pairing) ∷ []
 
 -- What weighing answers for the list, the pairing and the lengths of the work buffers lent.
 abbrev pub weighing : List ℕ → List ℕ → List ℕ → Answer
-weighing list pairing lent = answer (first rows) (weight list pairing)
-  where
-    rows : List Row
-    rows = (1, fewWords lent) ∷ (listRows storeList list ++ (formRow list pairing ∷ pairRow list pairing ∷ []))
+weighing list pairing lent =
+    answer (first (callRows (fewWords lent) list ++ formRow list pairing ∷ pairRow list pairing ∷ []))
+    (weight list pairing)

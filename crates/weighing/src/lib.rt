@@ -2,6 +2,7 @@
 mod parts;
 
 use buffers;
+use checks;
 ghost use mathlib.Core.Path.{_≡_};
 ghost use Rattle.buffers.specs.Buffers.{lent, Cleared};
 ghost use Rattle.weighing.specs.Weigh.{weighed};
@@ -20,9 +21,8 @@ pub fn weigh(list: &[u8], pairing: &[u8], work_a: &mut [u64], work_b: &mut [u64]
     ensures cleared { λ _. ⌜ Cleared (now («work_a» .entry)) (now («work_a» .exit))
         × Cleared (now («work_b» .entry)) (now («work_b» .exit)) ⌝ }
 {
-    let lent_b = work_b.len();
-    let r = parts::weigh_in(list, pairing, work_a, lent_b);
-    buffers::clear(work_a);
-    buffers::clear(work_b);
+    let few = checks::few_words(work_a, work_b);
+    let r = parts::weigh_in(few, list, pairing, work_b);
+    buffers::clear_both(work_a, work_b);
     r
 }

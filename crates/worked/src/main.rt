@@ -3,9 +3,7 @@
 // 13 cells, solved.
 use cellfile::decode;
 use cellfile::decode::byte_at;
-use lifting::Paired;
-use reduction::Reduced;
-use reduction::Replayed;
+use checks::Lengths;
 use weighing::Weighed;
 ghost use mathlib.Core.Path.{_≡_};
 ghost use Prim.Native.Nat.{_+_, _*_, _≤_};
@@ -64,11 +62,15 @@ fn show_reduced(name: &[u8], list: &[u8]) {
     let mut slip = [0u8; 64];
     let mut short = [0u8; 64];
     match reduction::reduce(list, &mut work_a, &mut work_b, &mut slip, &mut short) {
-        Reduced::Refused(k) => line(name, b"refused ", k as u64),
-        Reduced::Lengths { slip: m, short: k } => {
+        Lengths::Refused(k) => line(name, b"refused ", k as u64),
+        Lengths::Two {
+            first: m,
+            second: k,
+        } => {
             line(name, b"bytes of the slip ", m as u64);
             line(name, b"bytes of the short list ", k as u64);
         }
+        Lengths::One(_) => line(name, b"lengths ", 1),
     }
 }
 
@@ -97,8 +99,8 @@ fn show_replayed(name: &[u8], list: &[u8], slip: &[u8]) {
     let mut work_b = [0u64; 8192];
     let mut short = [0u8; 64];
     match reduction::replay(list, slip, &mut work_a, &mut work_b, &mut short) {
-        Replayed::Refused(k) => line(name, b"refused ", k as u64),
-        Replayed::Length(k) => {
+        Lengths::Refused(k) => line(name, b"refused ", k as u64),
+        Lengths::One(k) => {
             line(name, b"bytes of the short list ", k as u64);
             io::write_all(1, name);
             io::write_all(1, b"short");
@@ -107,6 +109,7 @@ fn show_replayed(name: &[u8], list: &[u8], slip: &[u8]) {
             entry(&short, 28);
             io::write_all(1, b"\n");
         }
+        Lengths::Two { .. } => line(name, b"lengths ", 2),
     }
 }
 
@@ -127,8 +130,8 @@ fn show_solved(name: &[u8], list: &[u8], empty: &[u8]) {
     let mut work_b = [0u64; 8192];
     let mut pairing = [0u8; 64];
     match lifting::solve(list, empty, &mut work_a, &mut work_b, &mut pairing) {
-        Paired::Refused(k) => line(name, b"refused ", k as u64),
-        Paired::Length(k) => {
+        Lengths::Refused(k) => line(name, b"refused ", k as u64),
+        Lengths::One(k) => {
             line(name, b"bytes of the pairing ", k as u64);
             io::write_all(1, name);
             io::write_all(1, b"pairs");
@@ -140,6 +143,7 @@ fn show_solved(name: &[u8], list: &[u8], empty: &[u8]) {
             pair(&pairing, 19);
             io::write_all(1, b"\n");
         }
+        Lengths::Two { .. } => line(name, b"lengths ", 2),
     }
 }
 

@@ -1,75 +1,59 @@
--- `stray_entry` finds an entry that refusal 5 names. Invariant: some entry is one just where some from place i on is
--- one.
-use Prim.Native.Nat.{ℕ, _+_, _*_, _-_, _≤_}
-use mathlib.Core.Path.{_≡_, sym, _∙_, ap}
-use mathlib.Core.List.{List}
-use lib.ListN.{drop}
-use Rattle.cellfile.specs.Fields.{readRecords}
-use Rattle.cellfile.specs.Files.{storeList}
-use Rattle.checks.specs.Loops.{stray}
-use Rattle.cellfile.specs.Reads.{EntryRead}
-use Rattle.cellfile.proofs.Walk.{part, from, from-start, from-end}
-use Rattle.checks.proofs.Forms.{stray-high, stray-turned, stray-not, stray-here, stray-next}
+-- `stray_entry` is the condition of refusal 5. Invariant: some entry is one just where some from place i on is one.
+use Prim.Native.Nat.{_-_, _<_, _≤_}
+use mathlib.Core.Path.{_≡_, sym, subst, _∙_}
+use mathlib.Core.Bool.{Bool}
+use Rattle.cellfile.specs.Files.{cellsOf, countOf}
+use Rattle.checks.specs.Refusals.{strayEntry, strayPair}
+use Rattle.checks.proofs.Forms.{straysFrom, stray-start, stray-end, stray-here, stray-next, stray-high}
+use Rattle.checks.proofs.Forms.{stray-turned, stray-not}
 use borrow.Author.Needs.{needs}
 use native.Mathlib.Omega.{arith}
 use Rattle.checks.proofs.stray_entry.Statement.{statement}
 use Rattle.checks.proofs.stray_entry.Tie as tie
 
 abbrev Inv-loop : tie.InvT-loop
-Inv-loop list n m i₀ i =
-    (i ≤ m) × (stray n (readRecords (storeList .entry) m (drop 4 list)) ≡ stray n (from (storeList .entry) list 4 m i))
+Inv-loop list n m shape i₀ i = (i ≤ m) × (strayEntry list ≡ straysFrom list i)
 
 abbrev μ-loop : tie.MeasureT-loop
-μ-loop list n m i₀ i = m - i
+μ-loop list n m shape i₀ i = m - i
 
-abbrev list : tie.After-entry-at Inv-loop μ-loop → List ℕ
-list g = g .before .before .before .before .before .args .list .now
+abbrev began : tie.In-loop Inv-loop μ-loop → tie.Start Inv-loop μ-loop
+began c = c .before .before .before .before
 
-abbrev at : tie.After-entry-at Inv-loop μ-loop → ℕ
-at g = 4 + 5 * g .before .before .before .loop .i
+below : (c : tie.In-loop Inv-loop μ-loop) → c .before .loop .i < countOf (began c .args .list .now)
+below c = omega (arith, began c .pre .0 .count)
 
--- the entry read is the one at place i
-here : (g : tie.After-entry-at Inv-loop μ-loop) → EntryRead (drop (at g) (list g)) (g .entry-at .result)
-here g = part (λ s. EntryRead s (g .entry-at .result)) (list g) (at g) (g .entry-at .ensures)
+-- the test of the entry read, for the cells of the list
+of-list : (g : tie.After-list-entry Inv-loop μ-loop) {t : Bool}
+    → strayPair (began (g .before) .args .n) (g .list-entry .result .a) (g .list-entry .result .b) ≡ t
+    → strayPair (cellsOf (began (g .before) .args .list .now)) (g .list-entry .result .a) (g .list-entry .result .b) ≡ t
+of-list g {t} e =
+    subst (λ n. strayPair n (g .list-entry .result .a) (g .list-entry .result .b) ≡ t) (began (g .before) .pre .1) e
+
+shape-of-requires : tie.Need-shape-of-requires Inv-loop μ-loop
+shape-of-requires c κs = search needs
 
 loop-holds : tie.Need-loop-holds Inv-loop μ-loop
-loop-holds c = (
-  omega arith,
-  ap (stray (c .before .args .n)) (from-start (storeList .entry) (c .before .args .list .now) 4
-      (c .before .args .m)),
-)
+loop-holds c = (omega arith, stray-start (c .before .before .args .list .now))
 
-mul-at : tie.Need-mul-at Inv-loop μ-loop
-mul-at c = search needs
-
-add-at : tie.Need-add-at Inv-loop μ-loop
-add-at c = search needs
-
-sub-entry-at : tie.Need-sub-entry-at Inv-loop μ-loop
-sub-entry-at c = search needs
-
-part-entry-at-start : tie.Need-part-entry-at-start Inv-loop μ-loop
-part-entry-at-start c = search needs
-
-part-entry-at-end : tie.Need-part-entry-at-end Inv-loop μ-loop
-part-entry-at-end c = search needs
-
-entry-at-requires : tie.Need-entry-at-requires Inv-loop μ-loop
-entry-at-requires c κs = search needs
+list-entry-requires : tie.Need-list-entry-requires Inv-loop μ-loop
+list-entry-requires c κs = record {
+  shaped = c .before .before .shape-of .ensures;
+  there = record { below = below c; long = began c .pre .0 .long };
+}
 
 returns : tie.Need-returns Inv-loop μ-loop
 returns c =
     let g = c .before .before in
-    let l = g .before .before .before .loop in
-    sym (l .inv .1
-    ∙ stray-here _ _ _ (g .before .before .loop-test .taken) _ (here g) _ (stray-high _ _ _ (c .if1 .taken)))
+    sym (g .before .before .loop .inv .1
+    ∙ stray-here _ _ (below (g .before)) _ (g .list-entry .ensures) (of-list g (stray-high _ _ _ (c .if1 .taken))))
 
 returns-2 : tie.Need-returns-2 Inv-loop μ-loop
 returns-2 c =
     let g = c .before .before .before .before in
-    let l = g .before .before .before .loop in
-    sym (l .inv .1 ∙ stray-here _ _ _ (g .before .before .loop-test .taken) _ (here g) _
-    (stray-turned _ _ _ (c .before .before .if1 .left) (c .if2 .taken)))
+    sym (g .before .before .loop .inv .1
+    ∙ stray-here _ _ (below (g .before)) _ (g .list-entry .ensures)
+    (of-list g (stray-turned _ _ _ (c .before .before .if1 .left) (c .if2 .taken))))
 
 add-i : tie.Need-add-i Inv-loop μ-loop
 add-i c = search needs
@@ -79,20 +63,18 @@ loop-less c = search needs
 
 loop-again : tie.Need-loop-again Inv-loop μ-loop
 loop-again c =
-    let g = c .before .before .before .before in
-    let l = g .before .before .before .loop in (
+    let g = c .before .before .before .before in (
       omega arith,
-      l .inv .1 ∙ stray-next _ _ _ (g .before .before .loop-test .taken) _ (here g) _
-          (stray-not _ _ _ (c .before .before .if1 .left) (c .if2 .left)),
+      g .before .before .loop .inv .1
+          ∙ stray-next _ _ (below (g .before)) _ (g .list-entry .ensures)
+          (of-list g (stray-not _ _ _ (c .before .before .if1 .left) (c .if2 .left))),
     )
 
 returns-3 : tie.Need-returns-3 Inv-loop μ-loop
 returns-3 c =
-    let start = c .before .before .before in
-    let l = c .before .loop in
-    let a = start .args in
-    sym (l .inv .1
-    ∙ ap (stray (a .n)) (from-end (storeList .entry) (a .list .now) 4 (a .m) (l .i) (c .loop-test .left)))
+    let start = c .before .before .before .before in
+    sym (c .before .loop .inv .1
+    ∙ stray-end (start .args .list .now) (c .before .loop .i) (omega (arith, start .pre .0 .count, c .loop-test .left)))
 
 pub stray-entry-spec : {M : Type 1} → statement M
 stray-entry-spec =
@@ -100,13 +82,9 @@ stray-entry-spec =
     (tie.spec
     Inv-loop
     μ-loop
+    shape-of-requires
     loop-holds
-    mul-at
-    add-at
-    sub-entry-at
-    part-entry-at-start
-    part-entry-at-end
-    entry-at-requires
+    list-entry-requires
     returns
     returns-2
     add-i

@@ -1,66 +1,40 @@
 -- `unordered` is the condition of refusal 6. Invariant: the keys ascend just where those from place i on ascend from
 -- low.
-use Prim.Native.Nat.{ℕ, _+_, _*_, _-_, _≤_}
-use mathlib.Core.Path.{_≡_, sym, _∙_, ap}
+use Prim.Native.Nat.{_-_, _<_, _≤_}
+use mathlib.Core.Path.{_≡_, sym, ap, _∙_}
 use mathlib.Core.Bool.{not}
-use mathlib.Core.List.{List}
-use lib.ListN.{drop}
-use Rattle.cellfile.specs.Fields.{readRecords}
-use Rattle.cellfile.specs.Files.{storeList}
-use Rattle.checks.specs.Refusals.{ascendingFrom}
-use Rattle.checks.specs.Loops.{keys}
-use Rattle.cellfile.specs.Reads.{EntryRead}
-use Rattle.cellfile.proofs.Walk.{part, from, from-start, from-end}
-use Rattle.checks.proofs.Forms.{keys-not, keys-next}
+use Rattle.cellfile.specs.Files.{countOf}
+use Rattle.checks.specs.Refusals.{unordered}
+use Rattle.checks.proofs.Forms.{ascendsFrom, unordered-start, ascends-end, ascends-not, ascends-next}
 use borrow.Author.Needs.{needs}
 use native.Mathlib.Omega.{arith}
 use Rattle.checks.proofs.unordered.Statement.{statement}
 use Rattle.checks.proofs.unordered.Tie as tie
 
 abbrev Inv-loop : tie.InvT-loop
-Inv-loop list m low₀ i₀ low i =
-    (i ≤ m) × (low ≤ 1048576)
-    × (ascendingFrom 0 (keys (readRecords (storeList .entry) m (drop 4 list))) ≡ ascendingFrom low
-    (keys (from (storeList .entry) list 4 m i)))
+Inv-loop list m shape low₀ i₀ low i =
+    (i ≤ m) × (low ≤ 1048576) × (unordered list ≡ not (ascendsFrom list low i))
 
 abbrev μ-loop : tie.MeasureT-loop
-μ-loop list m low₀ i₀ low i = m - i
+μ-loop list m shape low₀ i₀ low i = m - i
 
-abbrev list : tie.After-entry-at Inv-loop μ-loop → List ℕ
-list g = g .before .before .before .before .before .args .list .now
+abbrev began : tie.In-loop Inv-loop μ-loop → tie.Start Inv-loop μ-loop
+began c = c .before .before .before .before
 
-abbrev at : tie.After-entry-at Inv-loop μ-loop → ℕ
-at g = 4 + 5 * g .before .before .before .loop .i
+below : (c : tie.In-loop Inv-loop μ-loop) → c .before .loop .i < countOf (began c .args .list .now)
+below c = omega (arith, began c .pre .count)
 
--- the entry read is the one at place i
-here : (g : tie.After-entry-at Inv-loop μ-loop) → EntryRead (drop (at g) (list g)) (g .entry-at .result)
-here g = part (λ s. EntryRead s (g .entry-at .result)) (list g) (at g) (g .entry-at .ensures)
+shape-of-requires : tie.Need-shape-of-requires Inv-loop μ-loop
+shape-of-requires c κs = search needs
 
 loop-holds : tie.Need-loop-holds Inv-loop μ-loop
-loop-holds c = (
-  omega arith,
-  omega arith,
-  ap (λ rs. ascendingFrom 0 (keys rs))
-      (from-start (storeList .entry) (c .before .args .list .now) 4 (c .before .args .m)),
-)
+loop-holds c = (omega arith, omega arith, unordered-start (c .before .before .args .list .now))
 
-mul-at : tie.Need-mul-at Inv-loop μ-loop
-mul-at c = search needs
-
-add-at : tie.Need-add-at Inv-loop μ-loop
-add-at c = search needs
-
-sub-entry-at : tie.Need-sub-entry-at Inv-loop μ-loop
-sub-entry-at c = search needs
-
-part-entry-at-start : tie.Need-part-entry-at-start Inv-loop μ-loop
-part-entry-at-start c = search needs
-
-part-entry-at-end : tie.Need-part-entry-at-end Inv-loop μ-loop
-part-entry-at-end c = search needs
-
-entry-at-requires : tie.Need-entry-at-requires Inv-loop μ-loop
-entry-at-requires c κs = search needs
+list-entry-requires : tie.Need-list-entry-requires Inv-loop μ-loop
+list-entry-requires c κs = record {
+  shaped = c .before .before .shape-of .ensures;
+  there = record { below = below c; long = began c .pre .long };
+}
 
 mul-key : tie.Need-mul-key Inv-loop μ-loop
 mul-key c = search needs
@@ -71,8 +45,8 @@ add-key c = search needs
 returns : tie.Need-returns Inv-loop μ-loop
 returns c =
     let g = c .before .before .before in
-    let l = g .before .before .before .loop in
-    sym (ap not (l .inv .2 ∙ keys-not _ _ _ (g .before .before .loop-test .taken) _ (here g) _ (c .if1 .taken)))
+    sym (g .before .before .loop .inv .2
+    ∙ ap not (ascends-not _ _ (below (g .before)) _ (g .list-entry .ensures) _ (c .if1 .taken)))
 
 add-low : tie.Need-add-low Inv-loop μ-loop
 add-low c = search needs
@@ -85,22 +59,19 @@ loop-less c = search needs
 
 loop-again : tie.Need-loop-again Inv-loop μ-loop
 loop-again c =
-    let g = c .before .before .before in
-    let l = g .before .before .before .loop in (
+    let g = c .before .before .before in (
       omega arith,
-      omega (arith, g .entry-at .ensures .a-fits, g .entry-at .ensures .b-fits),
-      l .inv .2 ∙ keys-next _ _ _ (g .before .before .loop-test .taken) _ (here g) _ (c .if1 .left),
+      omega (arith, g .list-entry .ensures .a-fits, g .list-entry .ensures .b-fits),
+      g .before .before .loop .inv .2
+          ∙ ap not (ascends-next _ _ (below (g .before)) _ (g .list-entry .ensures) _ (c .if1 .left)),
     )
 
 returns-2 : tie.Need-returns-2 Inv-loop μ-loop
 returns-2 c =
-    let start = c .before .before .before in
-    let l = c .before .loop in
-    let a = start .args in
-    sym (ap not
-    (l .inv .2
-    ∙ ap (λ rs. ascendingFrom (l .low) (keys rs))
-    (from-end (storeList .entry) (a .list .now) 4 (a .m) (l .i) (c .loop-test .left))))
+    let start = c .before .before .before .before in
+    sym (c .before .loop .inv .2
+    ∙ ap not (ascends-end (start .args .list .now) (c .before .loop .i)
+    (omega (arith, start .pre .count, c .loop-test .left)) (c .before .loop .low)))
 
 pub unordered-spec : {M : Type 1} → statement M
 unordered-spec =
@@ -108,13 +79,9 @@ unordered-spec =
     (tie.spec
     Inv-loop
     μ-loop
+    shape-of-requires
     loop-holds
-    mul-at
-    add-at
-    sub-entry-at
-    part-entry-at-start
-    part-entry-at-end
-    entry-at-requires
+    list-entry-requires
     mul-key
     add-key
     returns

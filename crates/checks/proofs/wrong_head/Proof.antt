@@ -6,29 +6,29 @@ use Rattle.checks.proofs.wrong_head.Statement.{statement}
 use Rattle.checks.proofs.wrong_head.Tie as tie
 
 returns : tie.Need-returns
-returns c = head-short _ _ _ _ (c .if1 .taken)
+returns c l d = head-short _ _ _ _ l d (c .if1 .taken)
 
 header-at-requires : tie.Need-header-at-requires
 header-at-requires c κs = search needs
 
 returns-2 : tie.Need-returns-2
-returns-2 c =
+returns-2 c l d =
     let at-if1 = c .before .before .before in
-    head-kind _ _ _ _ _ (c .before .before .header-at .ensures) (at-if1 .if1 .left) (c .if2 .taken)
+    head-kind _ _ _ _ l d _ (c .before .before .header-at .ensures) (at-if1 .if1 .left) (c .if2 .taken)
 
 returns-3 : tie.Need-returns-3
-returns-3 c =
+returns-3 c l d =
     let at-header-at = c .before .before .before .before in
     let at-if1 = at-header-at .before in
-    head-cells _ _ _ _ _ (at-header-at .header-at .ensures) (at-if1 .if1 .left) (c .before .before .if2 .left)
+    head-cells _ _ _ _ l d _ (at-header-at .header-at .ensures) (at-if1 .if1 .left) (c .before .before .if2 .left)
     (c .if3 .taken)
 
 returns-4 : tie.Need-returns-4
-returns-4 c =
+returns-4 c l d =
     let at-if2 = c .before .before .before .before in
     let at-header-at = at-if2 .before .before in
     let at-if1 = at-header-at .before in
-    head-zeros _ _ _ _ _ (at-header-at .header-at .ensures) (at-if1 .if1 .left) (at-if2 .if2 .left)
+    head-zeros _ _ _ _ l d _ (at-header-at .header-at .ensures) (at-if1 .if1 .left) (at-if2 .if2 .left)
     (c .before .before .if3 .left) (c .if4 .taken)
 
 mul-result : tie.Need-mul-result
@@ -44,12 +44,12 @@ add-result c =
     omega (arith, entries-fit _ _ (start .pre) (at-header-at .header-at .ensures .m-fits))
 
 returns-5 : tie.Need-returns-5
-returns-5 c =
+returns-5 c l d =
     let at-if3 = c .before .before .before in
     let at-if2 = at-if3 .before .before in
     let at-header-at = at-if2 .before .before in
     let at-if1 = at-header-at .before in
-    head-length _ _ _ _ _ (at-header-at .header-at .ensures) (at-if1 .if1 .left) (at-if2 .if2 .left)
+    head-length _ _ _ _ l d _ (at-header-at .header-at .ensures) (at-if1 .if1 .left) (at-if2 .if2 .left)
     (at-if3 .if3 .left) (c .before .if4 .left)
 
 pub wrong-head-spec : {M : Type 1} → statement M

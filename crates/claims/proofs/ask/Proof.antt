@@ -5,9 +5,9 @@ use native.Mathlib.Omega.{arith}
 use lib.Seq.{length-take-le}
 use borrow.Author.Needs.{needs}
 use Rattle.weighing.specs.Weigh.{weighed}
-use Rattle.reduction.specs.Calls.{replayed}
-use Rattle.lifting.specs.Calls.{paired}
-use Rattle.claims.proofs.Telling.{Given, lift-room, replay-refused, lift-refused, weigh-refused, all-answered}
+use Rattle.checks.specs.Calls.{answered}
+use Rattle.claims.proofs.Telling.{Given, replay-one, lift-one, lift-room, replay-refused, lift-refused}
+use Rattle.claims.proofs.Telling.{weigh-refused, all-answered}
 use Rattle.claims.proofs.ask.Statement.{statement}
 use Rattle.claims.proofs.ask.Tie as tie
 
@@ -34,24 +34,6 @@ given c =
       lifted = args .lifted .now;
     }
 
-replay-requires : tie.Need-replay-requires
-replay-requires c κs = search needs
-
-enum-known-k : tie.Need-enum-known-k
-enum-known-k c = search needs
-
-enum-known-i : tie.Need-enum-known-i
-enum-known-i c = search needs
-
-lift-requires : tie.Need-lift-requires
-lift-requires c κs = search needs
-
-enum-known-k-2 : tie.Need-enum-known-k-2
-enum-known-k-2 c = search needs
-
-enum-known-j : tie.Need-enum-known-j
-enum-known-j c = search needs
-
 slice-reshare-prefix-weigh : tie.Need-slice-reshare-prefix-weigh
 slice-reshare-prefix-weigh c =
     let j = c .before in
@@ -60,7 +42,7 @@ slice-reshare-prefix-weigh c =
     let r = at-replay i in
     omega (
       arith,
-      lift-room (given r) (ap replayed (i .i .given .1)) (r .replay .ensures) (ap paired (j .j .given .1))
+      lift-room (given r) (ap answered (i .i .given .1)) (r .replay .ensures) (ap answered (j .j .given .1))
           (l .lift .ensures),
       l .lift .kept .1 .1 .1 .1 .1 .0,
     )
@@ -68,60 +50,18 @@ slice-reshare-prefix-weigh c =
 slice-aggregate-weigh : tie.Need-slice-aggregate-weigh
 slice-aggregate-weigh c = sym (length-take-le _ _ (slice-reshare-prefix-weigh (c .before)))
 
-weigh-requires : tie.Need-weigh-requires
-weigh-requires c κs = search needs
-
-enum-known-k-3 : tie.Need-enum-known-k-3
-enum-known-k-3 c = search needs
-
-enum-known-p : tie.Need-enum-known-p
-enum-known-p c = search needs
-
-same-length : tie.Need-same-length
-same-length c = search needs
-
-same-length-2 : tie.Need-same-length-2
-same-length-2 c = search needs
-
-same-length-3 : tie.Need-same-length-3
-same-length-3 c = search needs
-
 returns : tie.Need-returns
 returns c =
     let r = c .before .before .before .before .before .before .before .before .before in
-    replay-refused (given r) (ap replayed (c .before .k .given .1)) (r .replay .ensures)
-
-same-length-4 : tie.Need-same-length-4
-same-length-4 c = search needs
-
-same-length-5 : tie.Need-same-length-5
-same-length-5 c = search needs
-
-same-length-6 : tie.Need-same-length-6
-same-length-6 c = search needs
-
-same-length-7 : tie.Need-same-length-7
-same-length-7 c = search needs
+    replay-refused (given r) (ap answered (c .before .k .given .1)) (r .replay .ensures)
 
 returns-2 : tie.Need-returns-2
 returns-2 c =
     let l = c .before .before .before .before .before .before .before .before .before in
     let i = at-i l in
     let r = at-replay i in
-    lift-refused (given r) (ap replayed (i .i .given .1)) (r .replay .ensures) (ap paired (c .before .k2 .given .1))
+    lift-refused (given r) (ap answered (i .i .given .1)) (r .replay .ensures) (ap answered (c .before .k2 .given .1))
     (l .lift .ensures)
-
-same-length-8 : tie.Need-same-length-8
-same-length-8 c = search needs
-
-same-length-9 : tie.Need-same-length-9
-same-length-9 c = search needs
-
-same-length-10 : tie.Need-same-length-10
-same-length-10 c = search needs
-
-same-length-11 : tie.Need-same-length-11
-same-length-11 c = search needs
 
 returns-3 : tie.Need-returns-3
 returns-3 c =
@@ -130,20 +70,8 @@ returns-3 c =
     let l = at-lift j in
     let i = at-i l in
     let r = at-replay i in
-    weigh-refused (given r) (ap replayed (i .i .given .1)) (r .replay .ensures) (ap paired (j .j .given .1))
+    weigh-refused (given r) (ap answered (i .i .given .1)) (r .replay .ensures) (ap answered (j .j .given .1))
     (l .lift .ensures) (ap weighed (c .before .k3 .given .1)) (x .weigh .ensures)
-
-same-length-12 : tie.Need-same-length-12
-same-length-12 c = search needs
-
-same-length-13 : tie.Need-same-length-13
-same-length-13 c = search needs
-
-same-length-14 : tie.Need-same-length-14
-same-length-14 c = search needs
-
-same-length-15 : tie.Need-same-length-15
-same-length-15 c = search needs
 
 returns-4 : tie.Need-returns-4
 returns-4 c =
@@ -152,40 +80,67 @@ returns-4 c =
     let l = at-lift j in
     let i = at-i l in
     let r = at-replay i in
-    all-answered (given r) (ap replayed (i .i .given .1)) (r .replay .ensures) (ap paired (j .j .given .1))
+    all-answered (given r) (ap answered (i .i .given .1)) (r .replay .ensures) (ap answered (j .j .given .1))
     (l .lift .ensures) (ap weighed (c .before .p .given .1)) (x .weigh .ensures)
+
+-- replay and lift answer one length
+
+returns-5 : tie.Need-returns-5
+returns-5 c =
+    let l = c .before .before .before .before .before .before .before .before in
+    let i = at-i l in
+    let r = at-replay i in
+    absurd (lift-one (given r) (ap answered (i .i .given .1)) (r .replay .ensures) (ap answered (c .enum-told .given
+    .1))
+    (l .lift .ensures))
+
+returns-6 : tie.Need-returns-6
+returns-6 c =
+    let r = c .before .before .before .before .before .before .before .before in
+    absurd (replay-one (given r) (ap answered (c .enum-told2 .given .1)) (r .replay .ensures))
 
 pub ask-spec : {M : Type 1} → statement M
 ask-spec =
     tie.close
     (tie.spec
-    replay-requires
-    enum-known-k
-    enum-known-i
-    lift-requires
-    enum-known-k-2
-    enum-known-j
+    (λ c κs. search needs)
+    (λ c. search needs)
+    (λ c. search needs)
+    (λ c κs. search needs)
+    (λ c. search needs)
+    (λ c. search needs)
     slice-reshare-prefix-weigh
     slice-aggregate-weigh
-    weigh-requires
-    enum-known-k-3
-    enum-known-p
-    same-length
-    same-length-2
-    same-length-3
+    (λ c κs. search needs)
+    (λ c. search needs)
+    (λ c. search needs)
+    (λ c. search needs)
+    (λ c. search needs)
+    (λ c. search needs)
+    (λ c. search needs)
+    (λ c. search needs)
     returns
-    same-length-4
-    same-length-5
-    same-length-6
-    same-length-7
+    (λ c. search needs)
+    (λ c. search needs)
+    (λ c. search needs)
+    (λ c. search needs)
     returns-2
-    same-length-8
-    same-length-9
-    same-length-10
-    same-length-11
+    (λ c. search needs)
+    (λ c. search needs)
+    (λ c. search needs)
+    (λ c. search needs)
     returns-3
-    same-length-12
-    same-length-13
-    same-length-14
-    same-length-15
-    returns-4)
+    (λ c. search needs)
+    (λ c. search needs)
+    (λ c. search needs)
+    (λ c. search needs)
+    returns-4
+    (λ c. search needs)
+    (λ c. search needs)
+    (λ c. search needs)
+    (λ c. search needs)
+    returns-5
+    (λ c. search needs)
+    (λ c. search needs)
+    (λ c. search needs)
+    returns-6)

@@ -4,6 +4,7 @@ use Prim.Native.Nat.{_+_}
 use native.Mathlib.Omega.{arith}
 use lib.ListN.{set, length-set}
 use borrow.Author.Needs.{needs}
+use Rattle.buffers.specs.Map.{atNames}
 use Rattle.leaves.proofs.note.Statement.{statement}
 use Rattle.leaves.proofs.note.Tie as tie
 
@@ -36,7 +37,7 @@ same-length c = search needs
 returns : tie.Need-returns
 returns c =
     let a = c .before .before .args in
-    ap (λ x. set (set (a .w2 .now) (a .t) x) (6144 + a .k) (1024 + a .v)) (c .closing-word .ensures)
+    ap (λ x. set (set (a .w2 .now) (a .t) x) (atNames + a .k) (1024 + a .v)) (c .closing-word .ensures)
 
 pub note-spec : {M : Type 1} → statement M
 note-spec =

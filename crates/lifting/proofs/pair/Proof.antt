@@ -1,39 +1,40 @@
 -- `pair` answers what `pair_in` answers, and clears both buffers.
 use mathlib.Core.Path.{ap, _∙_}
-use Rattle.buffers.specs.Buffers.{zeros}
+use mathlib.Core.List.{[], _∷_}
+use Rattle.matching.specs.Graph.{cellsLeft}
+use Rattle.cellfile.specs.Files.{cellsOf}
+use Rattle.starting.specs.Steps.{reduceSteps}
+use Rattle.lifting.specs.Calls.{graphAfter}
+use Rattle.lifting.specs.Tail.{crowdedRow}
+use Rattle.buffers.specs.Buffers.{lent, zeros}
+use Rattle.checks.proofs.Answering.{enough-words, framed}
 use borrow.Author.Needs.{needs}
 use Rattle.lifting.proofs.pair.Statement.{statement}
 use Rattle.lifting.proofs.pair.Tie as tie
 
 pair-in-requires : tie.Need-pair-in-requires
-pair-in-requires c κs = search needs
-
-clear-requires : tie.Need-clear-requires
-clear-requires c κs = search needs
-
-clear-requires-2 : tie.Need-clear-requires-2
-clear-requires-2 c κs = search needs
-
-same-length : tie.Need-same-length
-same-length c = search needs
-
-same-length-2 : tie.Need-same-length-2
-same-length-2 c = search needs
-
-same-length-3 : tie.Need-same-length-3
-same-length-3 c = search needs
+pair-in-requires c κs =
+    let few = c .before .before .before in
+    let a = few .before .before .before .before .before .before .before .args in
+    enough-words (a .work-a .now) (a .work-b .now) (few .few-words .ensures)
 
 returns : tie.Need-returns
 returns c =
-    let at-clear2 = c .before .before in
-    let at-clear = at-clear2 .before .before .before .before in
-    let w = at-clear .before .before .before .before .before .before .before .before .pair-in in (
-      w .ensures .says,
+    let z = c .before .before .before .before .clear-both .ensures in
+    let i = c .before .before .before .before .before .before .before .before .before .before .before .before
+    .before in
+    let few = i .before .before .before .before in
+    let a = few .before .before .before .before .before .before .before .args in
+    let f =
+    framed (lent (a .work-a .now) (a .work-b .now)) (a .list .now) (crowdedRow (cellsLeft (cellsOf (a .list .now))
+    (graphAfter (a .list .now) (reduceSteps (a .list .now)))) ∷ []) (few .few-words .ensures)
+    (i .pair-in .ensures) in (
+      f .0,
       (
-        w .ensures .writes .0,
+        f .1 .0,
         (
-          at-clear .clear .ensures ∙ ap zeros (w .kept .1 .0),
-          at-clear2 .clear2 .ensures ∙ ap zeros (w .kept .1 .1 .0),
+          z .0 ∙ ap zeros (i .pair-in .kept .1 .1 .0),
+          z .1 ∙ ap zeros (i .pair-in .kept .1 .1 .1 .0),
         ),
       ),
     )
@@ -42,10 +43,10 @@ pub pair-spec : {M : Type 1} → statement M
 pair-spec =
     tie.close
     (tie.spec
+    (λ c κs. search needs)
     pair-in-requires
-    clear-requires
-    clear-requires-2
-    same-length
-    same-length-2
-    same-length-3
+    (λ c κs. search needs)
+    (λ c. search needs)
+    (λ c. search needs)
+    (λ c. search needs)
     returns)

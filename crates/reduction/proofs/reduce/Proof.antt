@@ -1,42 +1,34 @@
 -- `reduce` answers what `reduce_in` answers, and clears both buffers.
 use mathlib.Core.Path.{ap, _∙_}
-use Rattle.buffers.specs.Buffers.{zeros}
+use mathlib.Core.List.{[]}
+use Rattle.buffers.specs.Buffers.{lent, zeros}
+use Rattle.checks.proofs.Answering.{enough-words, framed}
 use borrow.Author.Needs.{needs}
 use Rattle.reduction.proofs.reduce.Statement.{statement}
 use Rattle.reduction.proofs.reduce.Tie as tie
 
 reduce-in-requires : tie.Need-reduce-in-requires
-reduce-in-requires c κs = search needs
-
-clear-requires : tie.Need-clear-requires
-clear-requires c κs = search needs
-
-clear-requires-2 : tie.Need-clear-requires-2
-clear-requires-2 c κs = search needs
-
-same-length : tie.Need-same-length
-same-length c = search needs
-
-same-length-2 : tie.Need-same-length-2
-same-length-2 c = search needs
-
-same-length-3 : tie.Need-same-length-3
-same-length-3 c = search needs
-
-same-length-4 : tie.Need-same-length-4
-same-length-4 c = search needs
+reduce-in-requires c κs =
+    let few = c .before .before .before .before in
+    let a = few .before .before .before .before .before .before .before .before .args in
+    enough-words (a .work-a .now) (a .work-b .now) (few .few-words .ensures)
 
 returns : tie.Need-returns
 returns c =
-    let at-clear2 = c .before .before in
-    let at-clear = at-clear2 .before .before .before .before in
-    let w = at-clear .before .before .before .before .before .before .before .before .before .before .reduce-in in (
-      w .ensures .says,
+    let z = c .before .before .before .before .clear-both .ensures in
+    let i = c .before .before .before .before .before .before .before .before .before .before .before .before
+    .before .before .before in
+    let few = i .before .before .before .before .before in
+    let a = few .before .before .before .before .before .before .before .before .args in
+    let f =
+    framed (lent (a .work-a .now) (a .work-b .now)) (a .list .now) [] (few .few-words .ensures)
+    (i .reduce-in .ensures) in (
+      f .0,
       (
-        (w .ensures .writes .0, w .ensures .writes .1 .0),
+        (f .1 .0, f .1 .1 .0),
         (
-          at-clear .clear .ensures ∙ ap zeros (w .kept .1 .0),
-          at-clear2 .clear2 .ensures ∙ ap zeros (w .kept .1 .1 .0),
+          z .0 ∙ ap zeros (i .reduce-in .kept .1 .1 .0),
+          z .1 ∙ ap zeros (i .reduce-in .kept .1 .1 .1 .0),
         ),
       ),
     )
@@ -45,11 +37,11 @@ pub reduce-spec : {M : Type 1} → statement M
 reduce-spec =
     tie.close
     (tie.spec
+    (λ c κs. search needs)
     reduce-in-requires
-    clear-requires
-    clear-requires-2
-    same-length
-    same-length-2
-    same-length-3
-    same-length-4
+    (λ c κs. search needs)
+    (λ c. search needs)
+    (λ c. search needs)
+    (λ c. search needs)
+    (λ c. search needs)
     returns)

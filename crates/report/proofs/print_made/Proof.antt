@@ -1,14 +1,13 @@
 -- `print_made` puts the lines one after the other.
-use mathlib.Core.Path.{_≡_}
+use mathlib.Core.Path.{ap, _∙_}
 use Prim.Native.Nat.{_+_, _-_, _/_, _≤_}
 use native.Mathlib.Omega.{arith}
 use lib.ListN.{length}
 use borrow.Author.Needs.{needs}
 use Rattle.cellfile.specs.Bytes.{number}
-use Rattle.cellfile.proofs.Walk.{part}
+use Rattle.cellfile.proofs.Walk.{from-place}
 use Rattle.report.specs.Printed.{ascii}
-use Rattle.report.proofs.Fields.{list-rooms}
-use Rattle.report.proofs.Making.{line-ends, lengths-least, count-few, lines-end, text-made}
+use Rattle.report.proofs.Making.{line-ends, lengths-least, count-few, lines-there, lines-end, text-made}
 use Rattle.report.proofs.print_made.Statement.{statement}
 use Rattle.report.proofs.print_made.Tie as tie
 
@@ -38,9 +37,6 @@ third-end c =
     line-ends (ascii "short") ((length (one .before .before .before .before .before .before .before .before .before
     .before .args .short .now) - 12) / 8) (omega arith) (c .line3 .ensures)
 
-header-at-requires : tie.Need-header-at-requires
-header-at-requires c κs = search needs
-
 sub-k : tie.Need-sub-k
 sub-k c = omega (arith, least c)
 
@@ -56,21 +52,6 @@ sub-number-at c = omega (arith, least c)
 part-number-at-start : tie.Need-part-number-at-start
 part-number-at-start c = omega (arith, least c)
 
-part-number-at-end : tie.Need-part-number-at-end
-part-number-at-end c = search needs
-
-number-at-requires : tie.Need-number-at-requires
-number-at-requires c κs = search needs
-
-slice-aggregate-line : tie.Need-slice-aggregate-line
-slice-aggregate-line c = search needs
-
-line-requires : tie.Need-line-requires
-line-requires c κs = search needs
-
-slice-aggregate-line-2 : tie.Need-slice-aggregate-line-2
-slice-aggregate-line-2 c = search needs
-
 line-requires-2 : tie.Need-line-requires-2
 line-requires-2 c κs =
     let one = c .before .before .before .before in
@@ -80,9 +61,6 @@ line-requires-2 c κs =
       one .line .ensures .long,
       one .before .before .before .before .before .before .before .before .before .before .pre .2,
     )
-
-slice-aggregate-line-3 : tie.Need-slice-aggregate-line-3
-slice-aggregate-line-3 c = search needs
 
 line-requires-3 : tie.Need-line-requires-3
 line-requires-3 c κs =
@@ -104,16 +82,11 @@ pair-lines-requires c κs =
     let one = two .before .before .before .before .before in
     let a = one .before .before .before .before .before .before .before .before .before .before .args in
     let s = one .before .before .before .before .before .before .before .before .before .before .pre in
-    let m = one .before .before .before .before .before .header-at .ensures .m in
-    let l = list-rooms (a .list .now) (s .0 .accepted) in
-    let k = count-few (a .list .now) (s .0) (s .1) m in (
-      omega (arith, m, l),
-      omega (arith, m, l),
-      k .0,
-      k .1,
+    let m = one .before .before .before .before .before .header-at .ensures .m in (
+      lines-there (a .list .now) (s .0) (s .1) m,
       omega (
         arith,
-        k .0,
+        count-few (a .list .now) (s .0) (s .1) m,
         first-end one,
         one .line .ensures .long,
         second-end two,
@@ -123,9 +96,6 @@ pair-lines-requires c κs =
         s .2,
       ),
     )
-
-slice-aggregate-line-4 : tie.Need-slice-aggregate-line-4
-slice-aggregate-line-4 c = search needs
 
 line-requires-4 : tie.Need-line-requires-4
 line-requires-4 c κs =
@@ -148,9 +118,6 @@ line-requires-4 c κs =
       s .2,
     )
 
-same-length : tie.Need-same-length
-same-length c = search needs
-
 returns : tie.Need-returns
 returns c =
     let three = c .before .before .before .before .before .before .before .before .before .before .before in
@@ -160,7 +127,7 @@ returns c =
     let s = one .before .before .before .before .before .before .before .before .before .before .pre in
     let n = one .before .before .before in
     text-made (a .list .now) (s .0) (s .1) (one .before .before .before .before .before .header-at .ensures .m)
-    (part (λ b. n .number-at .result ≡ number 8 b) (a .short .now) 4 (n .number-at .ensures)) (one .line .ensures)
+    (n .number-at .ensures ∙ ap (number 8) (from-place 4 (a .short .now))) (one .line .ensures)
     (two .line2 .ensures) (three .line3 .ensures) (c .before .before .before .before .before .before .before
     .pair-lines .ensures) (c .before .before .line4 .ensures) (s .2)
 
@@ -168,22 +135,22 @@ pub print-made-spec : {M : Type 1} → statement M
 print-made-spec =
     tie.close
     (tie.spec
-    header-at-requires
+    (λ c κs. search needs)
     sub-k
     sub-steps
     sub-entries
     sub-number-at
     part-number-at-start
-    part-number-at-end
-    number-at-requires
-    slice-aggregate-line
-    line-requires
-    slice-aggregate-line-2
+    (λ c. search needs)
+    (λ c κs. search needs)
+    (λ c. search needs)
+    (λ c κs. search needs)
+    (λ c. search needs)
     line-requires-2
-    slice-aggregate-line-3
+    (λ c. search needs)
     line-requires-3
     pair-lines-requires
-    slice-aggregate-line-4
+    (λ c. search needs)
     line-requires-4
-    same-length
+    (λ c. search needs)
     returns)

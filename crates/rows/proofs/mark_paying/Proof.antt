@@ -4,6 +4,7 @@ use Prim.Native.Nat.{_*_, _-_, _≤_}
 use mathlib.Core.Path.{_≡_, sym, ap, _∙_}
 use mathlib.Core.List.{map}
 use lib.ListN.{length, drop, length-set}
+use Rattle.buffers.specs.Map.{unit}
 use Rattle.rows.specs.Row.{rowPoints, paying}
 use Rattle.rows.proofs.Points.{twoFrom, from-none, from-more}
 use Rattle.rows.proofs.Best.{paying-none, paying-more}
@@ -15,7 +16,7 @@ use Rattle.rows.proofs.mark_paying.Tie as tie
 abbrev Inv-loop : tie.InvT-loop
 Inv-loop words marks₀ best₀ next₀ i₀ marks best next i =
     (i ≤ length words) × (length marks ≡ length words) × (best ≡ twoFrom words i .0) × (next ≡ twoFrom words i .1)
-    × (best ≤ 17592186044416 * (length words - i)) × (next ≤ 17592186044416 * (length words - i))
+    × (best ≤ (unit - 1) * (length words - i)) × (next ≤ (unit - 1) * (length words - i))
     × (drop i marks ≡ paying (map rowPoints (drop i words)))
 
 abbrev μ-loop : tie.MeasureT-loop

@@ -3,6 +3,7 @@
 use Prim.Native.Nat.{_*_, _-_, _≤_}
 use mathlib.Core.Path.{_≡_, ap, _∙_}
 use lib.ListN.{length}
+use Rattle.buffers.specs.Map.{unit}
 use Rattle.rows.proofs.Points.{twoFrom, from-none, from-more}
 use borrow.Author.Needs.{needs}
 use native.Mathlib.Omega.{arith}
@@ -12,7 +13,7 @@ use Rattle.rows.proofs.path_points.Tie as tie
 abbrev Inv-loop : tie.InvT-loop
 Inv-loop words best₀ next₀ i₀ best next i =
     (i ≤ length words) × (best ≡ twoFrom words i .0) × (next ≡ twoFrom words i .1)
-    × (best ≤ 17592186044416 * (length words - i)) × (next ≤ 17592186044416 * (length words - i))
+    × (best ≤ (unit - 1) * (length words - i)) × (next ≤ (unit - 1) * (length words - i))
 
 abbrev μ-loop : tie.MeasureT-loop
 μ-loop words best₀ next₀ i₀ best next i = i

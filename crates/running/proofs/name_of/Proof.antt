@@ -1,7 +1,5 @@
 -- `name_of` by the cases of the enum.
-use mathlib.Core.Path.{refl, sym, ap, _∙_}
-use Rattle.finding.specs.Finding.{told}
-use Rattle.running.proofs.Runs.{name-leaf, name-ring, name-chain, name-no}
+use mathlib.Core.Path.{refl}
 use borrow.Author.Needs.{needs}
 use Rattle.running.proofs.name_of.Statement.{statement}
 use Rattle.running.proofs.name_of.Tie as tie
@@ -19,16 +17,16 @@ enum-told : tie.Need-enum-told
 enum-told c = search needs
 
 returns : tie.Need-returns
-returns c = λ s q. name-leaf s (sym (ap told (c .before .step .given .1)) ∙ q) refl refl
+returns c = rw (c .before .step .given .1) (record { rule = refl; cell = refl })
 
 returns-2 : tie.Need-returns-2
-returns-2 c = λ s q. name-ring s (sym (ap told (c .before .step2 .given .1)) ∙ q) refl refl
+returns-2 c = rw (c .before .step2 .given .1) (record { rule = refl; cell = refl })
 
 returns-3 : tie.Need-returns-3
-returns-3 c = λ s q. name-chain s (sym (ap told (c .before .step3 .given .1)) ∙ q) refl refl
+returns-3 c = rw (c .before .step3 .given .1) (record { rule = refl; cell = refl })
 
 returns-4 : tie.Need-returns-4
-returns-4 c = λ s q. name-no s (sym (ap told (c .enum-told .given .1)) ∙ q)
+returns-4 c = search needs
 
 pub name-of-spec : {M : Type 1} → statement M
 name-of-spec =

@@ -18,15 +18,6 @@ abbrev μ-loop : tie.MeasureT-loop
 loop-holds : tie.Need-loop-holds Inv-loop μ-loop
 loop-holds c = (omega arith, omega (arith, c .pre), places-none (c .args .s))
 
-shr-loop : tie.Need-shr-loop Inv-loop μ-loop
-shr-loop c = search needs
-
-add-c : tie.Need-add-c Inv-loop μ-loop
-add-c c = search needs
-
-loop-less : tie.Need-loop-less Inv-loop μ-loop
-loop-less c = search needs
-
 loop-again : tie.Need-loop-again Inv-loop μ-loop
 loop-again c =
     let s = c .before .before .args .s in
@@ -42,4 +33,6 @@ returns : tie.Need-returns Inv-loop μ-loop
 returns c = (c .before .loop .inv .0, omega (arith, c .loop-test .left), c .before .loop .inv .2)
 
 pub lowest-spec : {M : Type 1} → statement M
-lowest-spec = tie.close (tie.spec Inv-loop μ-loop loop-holds shr-loop add-c loop-less loop-again returns)
+lowest-spec =
+    tie.close (tie.spec Inv-loop μ-loop loop-holds (λ c. search needs) (λ c. search needs) (λ c. search needs)
+    loop-again returns)

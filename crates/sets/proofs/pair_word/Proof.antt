@@ -5,18 +5,11 @@ use Rattle.cellfile.specs.Fields.{packed}
 use Rattle.sets.proofs.pair_word.Statement.{statement}
 use Rattle.sets.proofs.pair_word.Tie as tie
 
-mul-result : tie.Need-mul-result
-mul-result c = search needs
-
-mul-result-2 : tie.Need-mul-result-2
-mul-result-2 c = search needs
-
-add-result : tie.Need-add-result
-add-result c = search needs
-
 returns : tie.Need-returns
 unfolding packed
 returns c = omega arith
 
 pub pair-word-spec : {M : Type 1} → statement M
-pair-word-spec = tie.close (tie.spec mul-result mul-result-2 add-result returns)
+pair-word-spec =
+    tie.close (tie.spec (λ c. search needs) (λ c. search needs) (λ c. search needs) (λ c. search needs)
+    (λ c. search needs) (λ c. search needs) (λ c. search needs) (λ c. search needs) (λ c. search needs) returns)

@@ -6,11 +6,8 @@ use lib.Pow.{shl-exact}
 use Rattle.sets.proofs.single.Statement.{statement}
 use Rattle.sets.proofs.single.Tie as tie
 
-shl-result : tie.Need-shl-result
-shl-result c = search needs
-
 returns : tie.Need-returns
 returns c = shl-exact {a = 1} 1 (c .args .p) 64 (omega arith) (omega (arith, c .pre)) ∙ omega arith
 
 pub single-spec : {M : Type 1} → statement M
-single-spec = tie.close (tie.spec shl-result returns)
+single-spec = tie.close (tie.spec (λ c. search needs) returns)

@@ -1,17 +1,18 @@
 -- `blank` sets its words one by one: those below i are zero.
 use native.Mathlib.Omega.{arith}
 use borrow.Author.Needs.{needs}
-use Prim.Native.Nat.{_-_, _≤_}
+use Prim.Native.Nat.{_+_, _-_, _≤_}
+use Rattle.buffers.specs.Map.{atPoints, atPlaces}
 use Rattle.solving.specs.Gathered.{FrontKept}
 use Rattle.solving.proofs.Gathering.{front-none, front-set, ZeroTo, zero-more}
 use Rattle.solving.proofs.blank.Statement.{statement}
 use Rattle.solving.proofs.blank.Tie as tie
 
 abbrev Inv-loop : tie.InvT-loop
-Inv-loop w2₀ i₀ w2 i = FrontKept w2₀ w2 × ZeroTo i w2 × (7168 ≤ i) × (i ≤ 7324)
+Inv-loop w2₀ i₀ w2 i = FrontKept w2₀ w2 × ZeroTo i w2 × (atPoints ≤ i) × (i ≤ atPlaces + 12)
 
 abbrev μ-loop : tie.MeasureT-loop
-μ-loop w2₀ i₀ w2 i = 7324 - i
+μ-loop w2₀ i₀ w2 i = atPlaces + 12 - i
 
 loop-holds : tie.Need-loop-holds Inv-loop μ-loop
 loop-holds c = (front-none, (λ m l. absurd (omega arith)), omega arith, omega arith)

@@ -2,6 +2,7 @@
 use native.Mathlib.Omega.{arith}
 use borrow.Author.Needs.{needs}
 use Prim.Native.Nat.{_+_, _-_, _≤_}
+use Rattle.buffers.specs.Map.{atPlaces}
 use Rattle.slots.specs.Slots.{graphOf}
 use Rattle.solving.specs.Gathered.{FrontKept, CellsIn}
 use Rattle.solving.proofs.Gathering.{front-none, front-set, holds-front, degree-at, cells-none, cells-out}
@@ -67,7 +68,7 @@ loop-again c =
     let d = c .before .before .degree in
     let l = c .before .before .before .before .before .loop in
     let p = c .before .before .before .before .before .before .before .before .pre in (
-      front-set (l .inv .0) (7312 + l .k) (l .c) (omega arith),
+      front-set (l .inv .0) (atPlaces + l .k) (l .c) (omega arith),
       cells-in (l .inv .1) (omega (arith, c .before .if1 .taken, degree-at (l .c) (p .2) (p .1) (d .ensures)))
           (c .if2 .left) (omega (arith, p .0 .room2, l .inv .0 .long)),
       omega (arith, c .before .before .before .before .loop-test .taken),

@@ -2,7 +2,8 @@
 use mathlib.Core.Path.{sym, ap, _∙_}
 use native.Mathlib.Omega.{arith}
 use Rattle.checks.specs.Checking.{checked}
-use Rattle.checks.proofs.Accepted.{slip-room}
+use Rattle.checks.specs.Refusals.{rules}
+use Rattle.checks.proofs.Accepted.{count-fits, step-there}
 use Rattle.starting.proofs.Starts.{slip-accepted, seven-refused, seven-passed, slip-starts}
 use borrow.Author.Needs.{needs}
 use Rattle.starting.proofs.start_list.Statement.{statement}
@@ -24,8 +25,14 @@ take-steps-requires c κs =
     ap checked (sym (c .before .before .before .k .given .1))
     ∙ c .before .before .before .before .before .check-slip .ensures in
     let s = slip-accepted _ _ (p .1) e in
-    let r = slip-room _ _ (s .formed) (s .count) in
-    (p .0, p .1, r .0, r .1, omega arith)
+    let f = count-fits (c .before .before .before .before .before .before .before .before .before .before .args .slip
+    .now) in (
+      p .0,
+      p .1,
+      omega (arith, s .count, f),
+      λ i l. step-there rules _ _ i (s .formed) (omega (arith, s .count, l)),
+      omega arith,
+    )
 
 returns : tie.Need-returns
 returns c =

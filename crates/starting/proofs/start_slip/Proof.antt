@@ -21,7 +21,7 @@ returns c =
     let s = c .before .before .before .before in
     let b = s .before .before .before .before .before .before .before .begin-slip in (
       settled _ _ _ _ _ _ _ _ (b .ensures) (s .settle .ensures),
-      settled-clears _ _ _ _ _ _ _ (b .kept .1 .1 .0) (b .kept .1 .1 .1 .0) (s .settle .ensures),
+      settled-clears _ _ _ _ _ _ _ (b .kept .1 .1 .1 .0) (b .kept .1 .1 .1 .1 .0) (s .settle .ensures),
     )
 
 pub start-slip-spec : {M : Type 1} → statement M

@@ -6,7 +6,8 @@ use Prim.Native.Nat.{_+_}
 use lib.ListN.{length-set}
 use borrow.Author.Needs.{needs}
 use Rattle.slots.proofs.Holding.{holds-room}
-use Rattle.taking.proofs.Applied.{chain-row, chain-read, chain-less, chain-ends, chain-closing, chain-taken}
+use Rattle.taking.proofs.Applied.{row-many, chain-row, chain-read, chain-less, chain-ends, chain-closing}
+use Rattle.taking.proofs.Applied.{chain-taken}
 use Rattle.taking.proofs.take_chain.Statement.{statement}
 use Rattle.taking.proofs.take_chain.Tie as tie
 
@@ -29,7 +30,9 @@ part-chain-points-end : tie.Need-part-chain-points-end
 part-chain-points-end c = search needs
 
 chain-points-requires : tie.Need-chain-points-requires
-chain-points-requires c κs = search needs
+chain-points-requires c κs =
+    let g = c .before .before .before .before .before .before in
+    row-many (chain-row (g .before .before .before .before .before .pre)) (g .clear-row .ensures)
 
 sub-put-ends : tie.Need-sub-put-ends
 sub-put-ends c =

@@ -3,7 +3,8 @@ use mathlib.Core.Path.{refl, _∙_}
 use Prim.Native.Nat.{_+_}
 use lib.ListN.{length-set}
 use borrow.Author.Needs.{needs}
-use Rattle.taking.proofs.Applied.{ring-row, ring-read, ring-less, ring-unpaired, ring-closing, ring-taken}
+use Rattle.taking.proofs.Applied.{row-many, ring-row, ring-read, ring-less, ring-unpaired, ring-closing}
+use Rattle.taking.proofs.Applied.{ring-taken}
 use Rattle.taking.proofs.take_ring.Statement.{statement}
 use Rattle.taking.proofs.take_ring.Tie as tie
 
@@ -26,7 +27,9 @@ part-ring-points-end : tie.Need-part-ring-points-end
 part-ring-points-end c = search needs
 
 ring-points-requires : tie.Need-ring-points-requires
-ring-points-requires c κs = search needs
+ring-points-requires c κs =
+    let g = c .before .before .before .before .before .before in
+    row-many (ring-row (g .before .before .before .before .before .pre)) (g .clear-row .ensures)
 
 sub-put-pair : tie.Need-sub-put-pair
 sub-put-pair c =

@@ -4,6 +4,7 @@ use mathlib.Core.Path.{_≡_, refl, _∙_}
 use Prim.Native.Nat.{_-_}
 use native.Mathlib.Omega.{arith}
 use lib.ListN.{length}
+use Rattle.buffers.specs.Map.{trailRoom}
 use Rattle.finding.specs.Rows.{innerAt}
 use Rattle.trail.proofs.TakenRow.{Going, going-start, going-joins, going-below, going-two, going-pair, going-on}
 use Rattle.trail.proofs.TakenRow.{going-end}
@@ -16,7 +17,7 @@ Inv-loop w1₀ w2₀ e t u f i v prev₀ at₀ slot₀ k₀ w1 w2 prev at slot k
     × Going e w1₀ w2₀ t u (innerAt e w1₀ u f) v w1 w2 prev at slot k
 
 abbrev μ-loop : tie.MeasureT-loop
-μ-loop w1₀ w2₀ e t u f i v prev₀ at₀ slot₀ k₀ w1 w2 prev at slot k = 4096 - k
+μ-loop w1₀ w2₀ e t u f i v prev₀ at₀ slot₀ k₀ w1 w2 prev at slot k = trailRoom - k
 
 loop-holds : tie.Need-loop-holds Inv-loop μ-loop
 loop-holds c = (refl, refl, going-start (c .before .before .pre))

@@ -3,6 +3,7 @@ use native.Mathlib.Omega.{arith}
 use Prim.Native.Nat.{_+_}
 use lib.ListN.{length-set}
 use borrow.Author.Needs.{needs}
+use Rattle.buffers.specs.Map.{atTable}
 use Rattle.undoing.proofs.part.Statement.{statement}
 use Rattle.undoing.proofs.part.Tie as tie
 
@@ -22,7 +23,7 @@ mul-w2-2 : tie.Need-mul-w2-2
 mul-w2-2 c = search needs
 
 slice-write-w2-2 : tie.Need-slice-write-w2-2
-slice-write-w2-2 c = omega (arith, length-set (c .args .w2 .now) (4096 + c .args .x) 0)
+slice-write-w2-2 c = omega (arith, length-set (c .args .w2 .now) (atTable + c .args .x) 0)
 
 same-length : tie.Need-same-length
 same-length c = search needs

@@ -1,7 +1,7 @@
 -- `pair_at` reads the fields of a pairing's entry.
-use Rattle.cellfile.specs.Fields.{fields}
 use native.Mathlib.Omega.{arith}
 use borrow.Author.Needs.{needs}
+use Rattle.cellfile.proofs.Lists.{pair-fields}
 use Rattle.cellfile.proofs.decode.pair_at.Statement.{statement}
 use Rattle.cellfile.proofs.decode.pair_at.Tie as tie
 
@@ -9,11 +9,8 @@ number-at-requires : tie.Need-number-at-requires
 number-at-requires c κs = search needs
 
 returns : tie.Need-returns
-unfolding fields
 returns c = record {
-  a = omega arith;
-  b = omega arith;
-  zeros = omega arith;
+  is = pair-fields (c .before .before .args .s .now) (c .number-at .ensures);
   a-fits = omega arith;
   b-fits = omega arith;
 }

@@ -1,7 +1,7 @@
 -- `step_at` reads the fields of a slip's entry.
-use Rattle.cellfile.specs.Fields.{fields}
 use native.Mathlib.Omega.{arith}
 use borrow.Author.Needs.{needs}
+use Rattle.cellfile.proofs.Lists.{step-fields}
 use Rattle.cellfile.proofs.decode.step_at.Statement.{statement}
 use Rattle.cellfile.proofs.decode.step_at.Tie as tie
 
@@ -9,10 +9,8 @@ number-at-requires : tie.Need-number-at-requires
 number-at-requires c κs = search needs
 
 returns : tie.Need-returns
-unfolding fields
 returns c = record {
-  rule = omega arith;
-  cell = omega arith;
+  is = step-fields (c .before .before .args .s .now) (c .number-at .ensures);
   rule-fits = omega arith;
   cell-fits = omega arith;
 }

@@ -7,27 +7,6 @@ use borrow.Author.Needs.{needs}
 use Rattle.cellfile.proofs.write.put_header.Statement.{statement}
 use Rattle.cellfile.proofs.write.put_header.Tie as tie
 
-mul-put-number : tie.Need-mul-put-number
-mul-put-number c = search needs
-
-mul-put-number-2 : tie.Need-mul-put-number-2
-mul-put-number-2 c = search needs
-
-add-put-number : tie.Need-add-put-number
-add-put-number c = search needs
-
-mul-put-number-3 : tie.Need-mul-put-number-3
-mul-put-number-3 c = search needs
-
-add-put-number-2 : tie.Need-add-put-number-2
-add-put-number-2 c = search needs
-
-put-number-requires : tie.Need-put-number-requires
-put-number-requires c κs = search needs
-
-same-length : tie.Need-same-length
-same-length c = search needs
-
 returns : tie.Need-returns
 returns c =
     let start = c .before .before .before .before .before in
@@ -37,13 +16,5 @@ returns c =
 
 pub put-header-spec : {M : Type 1} → statement M
 put-header-spec =
-    tie.close
-    (tie.spec
-    mul-put-number
-    mul-put-number-2
-    add-put-number
-    mul-put-number-3
-    add-put-number-2
-    put-number-requires
-    same-length
-    returns)
+    tie.close (tie.spec (λ c. search needs) (λ c. search needs) (λ c. search needs) (λ c. search needs)
+    (λ c. search needs) (λ c κs. search needs) (λ c. search needs) returns)

@@ -1,10 +1,10 @@
 -- `put_words` writes one word after the other. Invariant: the bytes of the first i words are written, up to `at`.
 use Prim.Native.Nat.{_+_, _*_, _-_, _≤_}
-use mathlib.Core.Path.{_≡_, refl, sym, ap, _∙_}
+use mathlib.Core.Path.{_≡_, refl, ap, _∙_}
 use lib.ListN.{length, take}
 use Rattle.cellfile.specs.Files.{onto}
 use Rattle.cellfile.specs.Words.{wordBytes}
-use Rattle.cellfile.proofs.Outputs.{part-room, onto-next, words-next, words-room, words-at, length-taken}
+use Rattle.cellfile.proofs.Outputs.{part-room, words-room, words-at, run-next}
 use borrow.Author.Needs.{needs}
 use native.Mathlib.Omega.{arith}
 use Rattle.cellfile.proofs.write.put_words.Statement.{statement}
@@ -23,64 +23,31 @@ loop-holds c = (omega arith, omega arith, refl, refl)
 
 -- there is room for one more word
 room : (g : tie.In-loop Inv-loop μ-loop)
-    → g .before .loop .at + g .before .before .before .before .args .size
-    ≤ g .before .before .before .before .args .size * g .before .before .before .before .args .count
-room g = words-room _ (g .before .loop .i) _ _ (g .before .loop .inv .1) (g .loop-test .taken)
-
-mul-put-number : tie.Need-mul-put-number Inv-loop μ-loop
-mul-put-number c = search needs
-
-shared-slice-read-put-number : tie.Need-shared-slice-read-put-number Inv-loop μ-loop
-shared-slice-read-put-number c = search needs
-
-sub-put-number : tie.Need-sub-put-number Inv-loop μ-loop
-sub-put-number c =
-    let start = c .before .before .before .before .before in
-    omega (arith, room (c .before), c .before .before .loop .inv, start .pre)
-
-part-put-number-start : tie.Need-part-put-number-start Inv-loop μ-loop
-part-put-number-start c =
-    let start = c .before .before .before .before .before in
-    omega (arith, room (c .before), c .before .before .loop .inv, start .pre)
-
-part-put-number-end : tie.Need-part-put-number-end Inv-loop μ-loop
-part-put-number-end c = search needs
+    → g .before .loop .at + g .before .before .before .before .args .size ≤ length (g .before .loop .out)
+room g =
+    let l = g .before .loop in
+    let s = g .before .before .before .before in
+    omega (
+      arith,
+      words-room (s .args .size) (l .i) (s .args .count) (l .at) (l .inv .1) (g .loop-test .taken),
+      l .inv,
+      s .pre,
+    )
 
 put-number-requires : tie.Need-put-number-requires Inv-loop μ-loop
-put-number-requires c κs =
-    let at-loop = c .before .before .before in
-    let start = at-loop .before .before .before in
-    part-room (at-loop .loop .out) (at-loop .loop .at) (start .args .size)
-    (omega (arith, room (c .before .before), at-loop .loop .inv, start .pre))
-
-add-at : tie.Need-add-at Inv-loop μ-loop
-add-at c =
-    let start = c .before .before .before .before .before .before .before .before .before in
-    omega (arith, room (c .before .before .before .before .before), start .pre)
-
-add-i : tie.Need-add-i Inv-loop μ-loop
-add-i c = search needs
-
-loop-less : tie.Need-loop-less Inv-loop μ-loop
-loop-less c = search needs
+put-number-requires c κs = part-room (c .before .before .before .loop .out) _ _ (room (c .before .before))
 
 loop-again : tie.Need-loop-again Inv-loop μ-loop
 loop-again c =
-    let at-loop = c .before .before .before .before .before .before in
-    let start = at-loop .before .before .before in
-    let l = at-loop .loop in
-    let a = start .args in (
+    let g = c .before .before .before .before .before in
+    let l = g .before .loop in
+    let s = g .before .before .before .before in (
       omega arith,
       words-at _ _ _ (l .inv .1),
       c .before .out .given .1 ∙ l .inv .2,
-      onto-next _ _ (a .out .now) (l .out) (l .at)
-          (length-taken (a .size) (a .words .now) (l .i) (omega (arith, l .inv, start .pre)) ∙ sym (l .inv .1))
-          (l .inv .3) (c .before .before .put-number .ensures)
-          ∙ ap (λ f. onto f (a .out .now)) (words-next _ (a .words .now) (l .i) (omega (arith, l .inv, start .pre))),
+      run-next (s .args .size) (s .args .words .now) (s .args .out .now) (l .inv .1)
+          (omega (arith, g .loop-test .taken, s .pre)) refl (l .inv .3) (c .before .before .put-number .ensures),
     )
-
-same-length : tie.Need-same-length Inv-loop μ-loop
-same-length c = search needs
 
 returns : tie.Need-returns Inv-loop μ-loop
 returns c =
@@ -91,20 +58,7 @@ returns c =
 
 pub put-words-spec : {M : Type 1} → statement M
 put-words-spec =
-    tie.close
-    (tie.spec
-    Inv-loop
-    μ-loop
-    loop-holds
-    mul-put-number
-    shared-slice-read-put-number
-    sub-put-number
-    part-put-number-start
-    part-put-number-end
-    put-number-requires
-    add-at
-    add-i
-    loop-less
-    loop-again
-    same-length
-    returns)
+    tie.close (tie.spec Inv-loop μ-loop loop-holds (λ c. search needs) (λ c. search needs)
+    (λ c. omega (arith, room (c .before))) (λ c. omega (arith, room (c .before))) (λ c. search needs)
+    put-number-requires (λ c. omega (arith, room (c .before .before .before .before .before))) (λ c. search needs)
+    (λ c. search needs) loop-again (λ c. search needs) returns)

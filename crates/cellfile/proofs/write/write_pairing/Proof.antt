@@ -7,24 +7,6 @@ use borrow.Author.Needs.{needs}
 use Rattle.cellfile.proofs.write.write_pairing.Statement.{statement}
 use Rattle.cellfile.proofs.write.write_pairing.Tie as tie
 
-put-header-requires : tie.Need-put-header-requires
-put-header-requires c κs = search needs
-
-sub-put-words : tie.Need-sub-put-words
-sub-put-words c = search needs
-
-part-put-words-start : tie.Need-part-put-words-start
-part-put-words-start c = search needs
-
-part-put-words-end : tie.Need-part-put-words-end
-part-put-words-end c = search needs
-
-put-words-requires : tie.Need-put-words-requires
-put-words-requires c κs = search needs
-
-same-length : tie.Need-same-length
-same-length c = search needs
-
 returns : tie.Need-returns
 returns c =
     let at-put-header = c .before .before .before .before .before .before in
@@ -36,12 +18,5 @@ returns c =
 
 pub write-pairing-spec : {M : Type 1} → statement M
 write-pairing-spec =
-    tie.close
-    (tie.spec
-    put-header-requires
-    sub-put-words
-    part-put-words-start
-    part-put-words-end
-    put-words-requires
-    same-length
-    returns)
+    tie.close (tie.spec (λ c κs. search needs) (λ c. search needs) (λ c. search needs) (λ c. search needs)
+    (λ c κs. search needs) (λ c. search needs) returns)

@@ -3,6 +3,7 @@
 use mathlib.Core.Path.{refl, _∙_}
 use Prim.Native.Nat.{_+_}
 use native.Mathlib.Omega.{arith}
+use Rattle.buffers.specs.Map.{atSums}
 use Rattle.slots.proofs.Stores.{elsewhere-both, as-long-both}
 use Rattle.slots.proofs.Appending.{last-most, sum-most, append-holds}
 use borrow.Author.Needs.{needs}
@@ -55,12 +56,12 @@ add-keys-requires c κs =
       omega arith,
       omega (
         arith,
-        elsewhere-both (a .w2 .now) _ _ _ _ q (4096 + a .a) (omega arith) (omega arith),
+        elsewhere-both (a .w2 .now) _ _ _ _ q (atSums + a .a) (omega arith) (omega arith),
         sum-most (s .pre .0) (a .a) (omega arith),
       ),
       omega (
         arith,
-        elsewhere-both (a .w2 .now) _ _ _ _ q (4096 + a .b) (omega arith) (omega arith),
+        elsewhere-both (a .w2 .now) _ _ _ _ q (atSums + a .b) (omega arith) (omega arith),
         sum-most (s .pre .0) (a .b) (omega arith),
       ),
     )

@@ -1,6 +1,7 @@
 -- `add_keys` puts the key of a slot into the sum of each of its cells, one after the other.
 use Prim.Native.Nat.{_+_}
 use native.Mathlib.Omega.{arith}
+use Rattle.buffers.specs.Map.{atSums}
 use Rattle.slots.proofs.Stores.{elsewhere, as-long, added}
 use borrow.Author.Needs.{needs}
 use Rattle.slots.proofs.words.add_keys.Statement.{statement}
@@ -21,7 +22,7 @@ add-to-requires-2 c κs =
     let q = c .before .before .before .before .add-to .ensures in (
       omega arith,
       omega (arith, as-long (a .w2 .now) _ _ q),
-      omega (arith, elsewhere (a .w2 .now) _ _ q (4096 + a .b) (omega arith)),
+      omega (arith, elsewhere (a .w2 .now) _ _ q (atSums + a .b) (omega arith)),
     )
 
 same-length : tie.Need-same-length

@@ -1,66 +1,53 @@
 -- `weigh_in` answers the first of refusals 1 to 6, or what `weigh_list` answers.
-use mathlib.Core.Path.{sym, ap, _∙_}
-use Rattle.checks.specs.Checking.{checked}
-use Rattle.weighing.proofs.Weights.{few-first, few-second, enough-words, list-refused, list-passed}
-use Rattle.checks.proofs.Accepted.{list-accepted}
-use native.Mathlib.Omega.{arith}
+use mathlib.Core.Path.{_≡_, sym, ap, _∙_}
+use mathlib.Core.Bool.{false}
 use borrow.Author.Needs.{needs}
+use Rattle.cellfile.specs.Files.{cellsOf, countOf}
+use Rattle.checks.specs.Checking.{checked}
+use Rattle.checks.specs.Refusals.{first, lists, listRows}
+use Rattle.checks.proofs.Accepted.{call-accepted}
+use Rattle.weighing.proofs.Weights.{call-refused, call-passed}
 use Rattle.weighing.proofs.parts.weigh_in.Statement.{statement}
 use Rattle.weighing.proofs.parts.weigh_in.Tie as tie
 
-returns : tie.Need-returns
-returns c = few-first _ _ _ _ (c .if1 .taken)
+abbrev began : tie.After-n → tie.Start
+began c = c .before .before .before .before .before .before
 
-returns-2 : tie.Need-returns-2
-returns-2 c = few-second _ _ _ _ (c .before .if1 .left) (c .if2 .taken)
-
-check-list-requires : tie.Need-check-list-requires
-check-list-requires c κs = search needs
-
-enum-known-r : tie.Need-enum-known-r
-enum-known-r c = search needs
-
-enum-known-n : tie.Need-enum-known-n
-enum-known-n c = search needs
+-- the list has passed
+passed : (c : tie.After-n)
+    → (began c .args .few ≡ false) × (first (listRows lists (began c .args .list .now)) ≡ 0)
+    × (c .n .given .0 .0 ≡ cellsOf (began c .args .list .now))
+    × (c .n .given .0 .1 .0 ≡ countOf (began c .args .list .now))
+passed c = call-accepted _ _ (ap checked (sym (c .n .given .1)) ∙ c .before .before .check-call .ensures)
 
 weigh-list-requires : tie.Need-weigh-list-requires
 weigh-list-requires c κs =
-    let at-check-list = c .before .before .before .before in
-    let at-if1 = at-check-list .before .before in
-    let a = list-accepted _ (ap checked (sym (c .before .before .n .given .1)) ∙ at-check-list .check-list .ensures) in
-    (a .0, a .1, a .2, omega (arith, at-if1 .if1 .left))
+    let n = c .before .before in
+    let a = passed n in
+    (a .1, a .2, a .3, began n .pre (a .0))
 
-returns-3 : tie.Need-returns-3
-returns-3 c =
-    let at-check-list = c .before .before .before in
-    let at-if2 = at-check-list .before in
-    let at-if1 = at-if2 .before in
-    enough-words _ _ _ _ (at-if1 .if1 .left) (at-if2 .if2 .left)
-    (list-refused _ _ _ _ (ap checked (sym (c .before .r .given .1)) ∙ at-check-list .check-list .ensures))
+returns : tie.Need-returns
+returns c =
+    let g = c .before .before .before in
+    let a = g .before .before .before .before .args in
+    call-refused (a .list .now) (a .pairing .now) (a .few)
+    (ap checked (sym (c .before .r .given .1)) ∙ g .check-call .ensures)
 
-same-length : tie.Need-same-length
-same-length c = search needs
-
-returns-4 : tie.Need-returns-4
-returns-4 c =
-    let at-n = c .before .before .before .before .before in
-    let at-check-list = at-n .before .before in
-    let at-if2 = at-check-list .before in
-    let at-if1 = at-if2 .before in
-    let a = list-accepted _ (ap checked (sym (at-n .n .given .1)) ∙ at-check-list .check-list .ensures) in
-    enough-words _ _ _ _ (at-if1 .if1 .left) (at-if2 .if2 .left)
-    (list-passed _ _ _ (a .0) (c .before .before .weigh-list .ensures))
+returns-2 : tie.Need-returns-2
+returns-2 c =
+    let w = c .before .before in
+    let n = w .before .before .before in
+    let a = passed n in
+    call-passed _ _ (began n .args .few) (a .0) (a .1) (w .weigh-list .ensures)
 
 pub weigh-in-spec : {M : Type 1} → statement M
 weigh-in-spec =
     tie.close
     (tie.spec
-    returns
-    returns-2
-    check-list-requires
-    enum-known-r
-    enum-known-n
+    (λ c κs. search needs)
+    (λ c. search needs)
+    (λ c. search needs)
     weigh-list-requires
-    returns-3
-    same-length
-    returns-4)
+    returns
+    (λ c. search needs)
+    returns-2)

@@ -1,0 +1,31 @@
+-- A call on a list. Its refusals are, in checking order: 1, those of the list (2 to 6), its own, and 12 over its
+-- outputs. 'Accepted, a call answers the length of each file it wrote'; what an output then holds is `written` of crate
+-- cellfile.
+use Prim.Native.Nat.{ℕ}
+use mathlib.Core.Bool.{Bool}
+use mathlib.Core.List.{List, [], _∷_, _++_, map}
+use lib.ListN.{length}
+use Rattle.cellfile.specs.Answers.{Answer, answer}
+use Rattle.checks.specs.Refusals.{Row, first, fewWords, lists, listRows, shortOutput}
+use Rattle.checks.specs.declared.Lengths.{Lengths}
+use Rattle.checks.specs.declared.Lengths.the-variants.{Refused, One, Two}
+
+-- The number and the values of each case of the answer enum: the length of each file written.
+abbrev pub answered : Lengths → Answer
+answered (Refused k) = (k, [])
+answered (One first) = (0, first ∷ [])
+answered (Two first second) = (0, first ∷ second ∷ [])
+
+-- Refusals 1 to 6: `few` says whether a work buffer has too few words.
+abbrev pub callRows : Bool → List ℕ → List Row
+callRows few list = (1, few) ∷ listRows lists list
+
+abbrev pub roomRow : List (ℕ × List ℕ) → Row
+roomRow outs = (12, shortOutput outs)
+
+-- The answer of a call that writes files, for the lengths of the work buffers lent, the list, the call's own refusals,
+-- and the room and the file of each output.
+abbrev pub answering : (lent list : List ℕ) → List Row → List (ℕ × List ℕ) → Answer
+answering lent list own outs =
+    answer (first ((callRows (fewWords lent) list ++ own) ++ roomRow outs ∷ []))
+    (map (λ (o : ℕ × List ℕ). length (o .1)) outs)
