@@ -94,9 +94,9 @@ points-fit : (s t : List ℕ) → getD (readRecord (listLayout s .entry) t) 2 0 
 unfolding listLayout fields
 points-fit s t = omega arith
 
--- an entry's place is in the list
+-- an entry is in the list
 pub entry-place : (s : List ℕ) (shape : Shape) (i : ℕ) → EntryThere s shape i
-    → (shape .start + shape .bytes * i ≤ length s) × (shape .bytes * i ≤ 65536)
+    → (shape .start + shape .bytes * i + shape .bytes ≤ length s) × (shape .bytes * i ≤ 65536)
 entry-place s shape i t =
     let f = place-fits (listLayout s) s i (t .there) in
     let b = mul-le-mul-right {m = shape .bytes} {n = 8} 8191 (t .shaped .most) in (

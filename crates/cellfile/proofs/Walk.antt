@@ -29,6 +29,9 @@ fromPlace at s = take (length s - at) (drop at s)
 pub from-place : (at : ℕ) (s : List ℕ) → fromPlace at s ≡ drop at s
 from-place at s = take-all (length s - at) (drop at s) (omega (arith, length-drop at s))
 
+pub part-has : (at k : ℕ) (s : List ℕ) → at + k ≤ length s → k ≤ length (fromPlace at s)
+part-has at k s l = omega (arith, ap (λ (t : List ℕ). length t) (from-place at s), length-drop at s)
+
 -- ---- the record at a place
 
 pub record-in : (ws s : List ℕ) (m i : ℕ) → i < m → getD (readRecords ws m s) i [] ≡ readRecord ws (drop (size ws * i)
@@ -46,13 +49,15 @@ record-at l s i h =
     record-in (l .entry) (drop (start l (cellsOf s)) s) (countOf s) i h
     ∙ rw (drop-drop (size (l .entry) * i) (start l (cellsOf s)) s)
 
--- the place is in the file, and its number in bounds
+-- the record is in the file, and the number of its place in bounds
 pub place-fits : (l : Layout) (s : List ℕ) (i : ℕ) → RecordThere l s i
-    → (start l (cellsOf s) + size (l .entry) * i ≤ length s) × (size (l .entry) * i ≤ size (l .entry) * 8191)
+    → (start l (cellsOf s) + size (l .entry) * i + size (l .entry) ≤ length s)
+    × (size (l .entry) * i ≤ size (l .entry) * 8191)
 unfolding fields
 place-fits l s i r =
-    let h = r .below in (
-      omega (arith, r .long, mul-le-mul-left {m = i} {n = countOf s} (size (l .entry)) (omega arith)),
+    let h = r .below in
+    let e : size (l .entry) * suc i ≡ size (l .entry) + size (l .entry) * i = rw mul-suc (omega arith) in (
+      omega (arith, r .long, e, mul-le-mul-left {m = suc i} {n = countOf s} (size (l .entry)) (omega arith)),
       mul-le-mul-left {m = i} {n = 8191} (size (l .entry)) (omega arith),
     )
 

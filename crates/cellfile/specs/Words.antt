@@ -1,5 +1,5 @@
 -- Records as words. Inner contracts cite these; laws tie them to the definitions that promises cite.
-use Prim.Native.Nat.{ℕ, _+_, _*_, _%_, _<_, _≤_}
+use Prim.Native.Nat.{ℕ, _+_, _*_, _%_, _^_, _<_, _≤_}
 use mathlib.Core.Path.{_≡_}
 use mathlib.Core.List.{List, [], _∷_, _++_, map}
 use lib.ListN.{length, getD}
@@ -44,7 +44,7 @@ rowWord e = e .1 * unit + e .2
 
 -- What the points field of a short list has room for is below this: so are the points left and the points carried.
 abbrev pub pointsRoom : ℕ
-pointsRoom = 17592186044416
+pointsRoom = 2 ^ getD (shortList .entry) 2 0
 
 abbrev pub noEntry : Entry
 noEntry = (0, 0, 0)

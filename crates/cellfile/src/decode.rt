@@ -2,7 +2,7 @@
 // record at a place, which is handed on as the part that starts at it.
 ghost use mathlib.Core.Path.{_≡_};
 ghost use Prim.Native.Nat.{_<_, _≤_};
-ghost use lib.ListN.{getD};
+ghost use lib.ListN.{length, getD};
 ghost use Rattle.cellfile.specs.Bytes.{number};
 ghost use Rattle.cellfile.specs.Files.{slip as slipLayout, pairing as pairingLayout, listLayout};
 ghost use Rattle.cellfile.specs.Files.{cellsOf, fileLength};
@@ -101,12 +101,13 @@ pub fn header_at(s: &[u8]) -> Header
     }
 }
 
-// An entry of so many bytes: two cells of 10 bits, and points in the bits that are left.
+// An entry of so many bytes: two cells of 10 bits, and points in the bits that are left. Its bytes are there, so that
+// none of them has to be looked for.
 pub fn entry_at(s: &[u8], bytes: usize) -> Entry
-    requires { ⌜ (3 ≤ bytes) × (bytes ≤ 8) ⌝ }
+    requires { ⌜ (3 ≤ bytes) × (bytes ≤ 8) × (bytes ≤ length (now s)) ⌝ }
     ensures { λ r. ⌜ EntryAt bytes (now (s .entry)) r ⌝ }
 {
-    let v = number_at(s, bytes);
+    let v = number_at(&s[0..bytes], bytes);
     let points = 8 * bytes - 20;
     let key = v >> points;
     Entry {

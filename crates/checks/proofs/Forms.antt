@@ -1,8 +1,8 @@
 -- Laws of the refusals' conditions, as the functions that check a form meet them: what a test that was passed or not
 -- says of the condition, and of the first row that holds.
 use Prim.Native.Nat.{ℕ, _+_, _<_, _≤_}
-use mathlib.Core.Path.{_≡_, refl, _∙_}
-use mathlib.Core.Bool.{Bool, true, false, not, _||_, or-false}
+use mathlib.Core.Path.{_≡_, refl, sym, ap, _∙_}
+use mathlib.Core.Bool.{Bool, true, false, not, cond, _||_, or-false}
 use mathlib.Core.List.{List, [], _∷_, map}
 use native.Mathlib.Omega.{arith}
 use native.Mathlib.Numerals.{add-one}
@@ -15,10 +15,12 @@ use Rattle.cellfile.specs.Files.{cellsOf, countOf, key, entryKey, fileLength, l
 use Rattle.checks.specs.Refusals.{ascendingFrom, first, fewWords, lists, listRows, notAList, tooLarge}
 use Rattle.checks.specs.Refusals.{wrongLength, strayPair, strayEntry, unordered}
 use Rattle.checks.specs.Calls.{callRows}
+use Rattle.checks.specs.Loops.{entryRows}
 use Rattle.cellfile.specs.Answers.{answer}
 use Rattle.buffers.specs.Buffers.{lent}
 use Rattle.cellfile.specs.Reads.{HeaderRead, EntryRead}
 use Rattle.cellfile.proofs.Walk.{entries-count, entry-next}
+use Rattle.checks.proofs.Layers.{answer-number}
 use Rattle.cellfile.specs.declared.decode.Entry.{Entry}
 use Rattle.cellfile.specs.declared.decode.Header.{Header}
 
@@ -52,9 +54,17 @@ pub stray-start : (s : List ℕ) → strayEntry s ≡ straysFrom s 0
 unfolding strayEntry
 stray-start s = refl
 
-pub unordered-start : (s : List ℕ) → unordered s ≡ not (ascendsFrom s 0 0)
+-- the number of row 6, where it is k if the entries from place i on ascend
+abbrev pub orderRow : List ℕ → ℕ → ℕ → ℕ → ℕ
+orderRow s k low i = cond (ascendsFrom s low i) k 6
+
+pub order-start : (s : List ℕ) → first ((6, unordered s) ∷ []) ≡ orderRow s 0 0 0
 unfolding unordered
-unordered-start s = refl
+order-start s = turned (ascendsFrom s 0 0)
+  where
+    turned : (t : Bool) → _≡_ {A = ℕ} (cond (not t) 6 0) (cond t 0 6)
+    turned true = refl
+    turned false = refl
 
 module _ (s : List ℕ) (i : ℕ) (l : countOf s ≤ i) where
   none-left : drop i (entriesAll s) ≡ []
@@ -63,8 +73,12 @@ module _ (s : List ℕ) (i : ℕ) (l : countOf s ≤ i) where
   pub stray-end : straysFrom s i ≡ false
   stray-end = rw none-left
 
-  pub ascends-end : (low : ℕ) → ascendsFrom s low i ≡ true
-  ascends-end low = rw none-left
+  pub order-end : (k low : ℕ) → orderRow s k low i ≡ k
+  order-end k low = rw none-left
+
+cond-same : (t : Bool) → _≡_ {A = ℕ} (cond t 6 6) 6
+cond-same true = refl
+cond-same false = refl
 
 module _ (s : List ℕ) (i : ℕ) (l : i < countOf s) (e : Entry) (r : EntryRead s i e) where
   pub stray-here : strayPair (cellsOf s) (e .a) (e .b) ≡ true → straysFrom s i ≡ true
@@ -73,13 +87,22 @@ module _ (s : List ℕ) (i : ℕ) (l : i < countOf s) (e : Entry) (r : EntryRead
   pub stray-next : strayPair (cellsOf s) (e .a) (e .b) ≡ false → straysFrom s i ≡ straysFrom s (i + 1)
   stray-next p = rw (entry-next s i e l r, p)
 
-  pub ascends-not : (low : ℕ) → key (e .a) (e .b) < low → ascendsFrom s low i ≡ false
-  ascends-not low p = rw (entry-next s i e l r, lt-leb low (key (e .a) (e .b)) p)
+  pub order-not : (k low low′ : ℕ) → key (e .a) (e .b) < low → orderRow s k low i ≡ orderRow s 6 low′ (i + 1)
+  order-not k low low′ p =
+      rw (entry-next s i e l r, lt-leb low (key (e .a) (e .b)) p) (sym (cond-same (ascendsFrom s low′ (i + 1))))
 
-  pub ascends-next : (low : ℕ) → low ≤ key (e .a) (e .b)
-      → ascendsFrom s low i ≡ ascendsFrom s (key (e .a) (e .b) + 1) (i + 1)
-  ascends-next low p =
+  pub order-next : (k low : ℕ) → low ≤ key (e .a) (e .b)
+      → orderRow s k low i ≡ orderRow s k (key (e .a) (e .b) + 1) (i + 1)
+  order-next k low p =
       rw (entry-next s i e l r, le-leb low (key (e .a) (e .b)) p, add-one (key (e .a) (e .b)))
+
+-- the first of rows 5 and 6
+module _ (s : List ℕ) where
+  pub entries-5 : strayEntry s ≡ true → 5 ≡ first (entryRows s)
+  entries-5 e = rw e
+
+  pub entries-6 : {k : ℕ} → strayEntry s ≡ false → first ((6, unordered s) ∷ []) ≡ k → k ≡ first (entryRows s)
+  entries-6 e f = rw e (sym f)
 
 module _ (s : List ℕ) (h : Header) (r : HeaderRead s h) where
   pub kind-wrong : 4 ≤ length s → (h .kind ≡ 1 → ⊥) → true ≡ notAList lists s
@@ -130,15 +153,14 @@ module _ (s : List ℕ) (values : List ℕ) where
       row-4 d = rw (a, b, d)
 
       module _ (d : wrongLength s ≡ false) where
-        pub row-5 : strayEntry s ≡ true → refused 5
-        row-5 e = rw (a, b, d, e)
+        entries-left : first (listRows lists s) ≡ first (entryRows s)
+        entries-left = rw (a, b, d)
 
-        module _ (e : strayEntry s ≡ false) where
-          pub row-6 : unordered s ≡ true → refused 6
-          row-6 f = rw (a, b, d, e, f)
+        pub entries-row : (k : ℕ) → k ≡ first (entryRows s) → 0 < k → refused k
+        entries-row k e h = sym (answer-number (first (listRows lists s)) k values h .1 (entries-left ∙ sym e))
 
-          pub row-none : unordered s ≡ false → (0, values) ≡ answer (first (listRows lists s)) values
-          row-none f = rw (a, b, d, e, f)
+        pub row-none : first (entryRows s) ≡ 0 → (0, values) ≡ answer (first (listRows lists s)) values
+        row-none e = ap (λ k. answer k values) (sym (entries-left ∙ e))
 
 -- refusal 1, and the rows behind it
 module _ (a b : List ℕ) where

@@ -99,7 +99,8 @@ first-here : (rows more : List Row) (k : ℕ) (t : Bool) → All (λ (r : Row). 
     → first (rows ++ (k, t) ∷ more) ≡ k
 first-here rows more k t p e = first-passed rows ((k, t) ∷ more) p ∙ ap (λ (s : Bool). cond s k (first more)) e
 
-answer-number : (n k : ℕ) (vs : List ℕ) → 0 < k → (answer n vs ≡ (k, [])) ↔ (n ≡ k)
+-- a refusal's number is that of the rows
+pub answer-number : (n k : ℕ) (vs : List ℕ) → 0 < k → (answer n vs ≡ (k, [])) ↔ (n ≡ k)
 answer-number n k vs h = (λ e. number n e, λ e. ap (λ j. answer j vs) e ∙ refused k h)
   where
     number : (n : ℕ) → answer n vs ≡ (k, []) → n ≡ k

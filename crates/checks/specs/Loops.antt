@@ -3,12 +3,12 @@
 use Prim.Native.Nat.{ℕ, _≤_}
 use mathlib.Core.Path.{_≡_}
 use mathlib.Core.Bool.{Bool, not, _||_}
-use mathlib.Core.List.{List, map}
+use mathlib.Core.List.{List, [], _∷_, map}
 use lib.ListN.{length, getD}
 use Rattle.matching.specs.Lists.{any}
 use Rattle.cellfile.specs.Fields.{size}
 use Rattle.cellfile.specs.Files.{Layout, start, fileLength, cellsOf, countOf}
-use Rattle.checks.specs.Refusals.{ascendingFrom, badPair}
+use Rattle.checks.specs.Refusals.{Row, strayEntry, unordered, ascendingFrom, badPair}
 
 -- A file of m records with all the bytes that its header says.
 pub record WholeFile (l : Layout) (s : List ℕ) (m : ℕ) : Type 0 where
@@ -20,6 +20,10 @@ pub record Headed (l : Layout) (kind bytes : ℕ) : Type 0 where
   pub kind-is : l .kind ≡ kind
   pub bytes-are : size (l .entry) ≡ bytes
   pub bare : (n : ℕ) → start l n ≡ 4
+
+-- The rows of a list's entries, which one walk over them decides.
+abbrev pub entryRows : List ℕ → List Row
+entryRows s = (5, strayEntry s) ∷ (6, unordered s) ∷ []
 
 -- What refusal 9 says of a pairing's entries, of which those seen ascend to below `low`.
 abbrev pub badPairs : ℕ → ℕ → List (List ℕ) → Bool

@@ -8,13 +8,13 @@ ghost use Prim.Native.Nat.{ℕ, _≤_, _<_};
 ghost use Rattle.matching.specs.Lists.{any};
 ghost use Rattle.cellfile.specs.Files.{Layout, slip as slipLayout, pairing as pairingLayout, cellsOf, countOf, stepsOf};
 ghost use Rattle.cellfile.specs.Files.{readEntries, listLayout};
-ghost use Rattle.checks.specs.Refusals.{first, fewWords, lists, listRows, notAList, tooLarge, strayEntry};
-ghost use Rattle.checks.specs.Refusals.{unordered as disordered, misheaded, rules, noRule, badSlip, badPairing};
+ghost use Rattle.checks.specs.Refusals.{first, fewWords, lists, listRows, notAList, tooLarge};
+ghost use Rattle.checks.specs.Refusals.{misheaded, rules, noRule, badSlip, badPairing};
 ghost use Rattle.cellfile.specs.Answers.{answer};
 ghost use Rattle.buffers.specs.Buffers.{lent};
 ghost use Rattle.checks.specs.Calls.{callRows};
 ghost use Rattle.checks.specs.Checking.{checked};
-ghost use Rattle.checks.specs.Loops.{WholeFile, Headed, badPairs};
+ghost use Rattle.checks.specs.Loops.{WholeFile, Headed, entryRows, badPairs};
 ghost use Rattle.checks.specs.Merging.{Seeks};
 
 // A file's refusal, or its cells n and its count m.
@@ -65,44 +65,31 @@ fn too_large(list: &[u8]) -> bool
     MOST_ENTRIES < h.m
 }
 
-// Refusal 5.
-fn stray_entry(list: &[u8], n: usize, m: usize) -> bool
+// Refusals 5 and 6, in one walk over the entries: the number of the first that holds, or 0.
+fn check_entries(list: &[u8], n: usize, m: usize) -> u32
     requires { ⌜ WholeFile (listLayout (now list)) (now list) m × (n ≡ cellsOf (now list)) ⌝ }
-    ensures { λ r. ⌜ r ≡ strayEntry (now (list .entry)) ⌝ }
+    ensures { λ r. ⌜ r ≡ first (entryRows (now (list .entry))) ⌝ }
 {
     let shape = decode::shape_of(list);
-    let mut i = 0;
-    while i < m {
-        let e = decode::list_entry(list, shape, i);
-        if n <= e.b {
-            return true;
-        }
-        if e.b <= e.a {
-            return true;
-        }
-        i += 1;
-    }
-    false
-}
-
-// Refusal 6.
-fn unordered(list: &[u8], m: usize) -> bool
-    requires { ⌜ WholeFile (listLayout (now list)) (now list) m ⌝ }
-    ensures { λ r. ⌜ r ≡ disordered (now (list .entry)) ⌝ }
-{
-    let shape = decode::shape_of(list);
+    let mut k: u32 = 0;
     let mut low: usize = 0;
     let mut i = 0;
     while i < m {
         let e = decode::list_entry(list, shape, i);
+        if n <= e.b {
+            return 5;
+        }
+        if e.b <= e.a {
+            return 5;
+        }
         let key = e.a * 1024 + e.b;
         if key < low {
-            return true;
+            k = 6;
         }
         low = key + 1;
         i += 1;
     }
-    false
+    k
 }
 
 // Refusals 2 to 6.
@@ -122,11 +109,9 @@ pub fn check_list(list: &[u8]) -> Checked
     if list.len() != decode::list_length(list, m) {
         return Checked::Refused(4);
     }
-    if stray_entry(list, n, m) {
-        return Checked::Refused(5);
-    }
-    if unordered(list, m) {
-        return Checked::Refused(6);
+    let k = check_entries(list, n, m);
+    if k > 0 {
+        return Checked::Refused(k);
     }
     Checked::Accepted { n, m }
 }

@@ -2,11 +2,11 @@
 use mathlib.Core.Path.{_≡_, sym, ap, _∙_}
 use mathlib.Core.Bool.{false}
 use Rattle.cellfile.specs.Files.{listLayout}
-use Rattle.checks.specs.Refusals.{lists, notAList, tooLarge, wrongLength, strayEntry}
+use Rattle.checks.specs.Refusals.{lists, notAList, tooLarge, wrongLength}
 use Rattle.checks.specs.Loops.{WholeFile}
 use Rattle.checks.proofs.Rows.{wrong-length-none}
-use Rattle.checks.proofs.Forms.{length-wrong, length-right, values-are, row-2, row-3, row-4, row-5, row-6}
-use Rattle.checks.proofs.Forms.{row-none}
+use Rattle.checks.proofs.Forms.{length-wrong, length-right, values-are, row-2, row-3, row-4}
+use Rattle.checks.proofs.Forms.{entries-row, row-none}
 use native.Mathlib.Omega.{arith}
 use borrow.Author.Needs.{needs}
 use Rattle.checks.proofs.check_list.Statement.{statement}
@@ -56,37 +56,22 @@ whole g = record {
   long = omega (arith, wrong-length-none _ (not-4 g));
 }
 
-stray-entry-requires : tie.Need-stray-entry-requires
-stray-entry-requires c κs = (whole c, c .before .before .header-at .ensures .n)
+check-entries-requires : tie.Need-check-entries-requires
+check-entries-requires c κs = (whole c, c .before .before .header-at .ensures .n)
 
 returns-4 : tie.Need-returns-4
 returns-4 c =
     let g = c .before .before in
-    row-5 _ _ (not-2 (g .before .before .before .before .before)) (not-3 (g .before .before .before)) (not-4 g)
-    (sym (c .before .stray-entry .ensures) ∙ c .if4 .taken)
-
-unordered-requires : tie.Need-unordered-requires
-unordered-requires c κs = whole (c .before .before)
-
-not-5 : (g : tie.Else4)
-    → strayEntry (g .before .before .before .before .before .before .before .before .before .before .args .list .now)
-    ≡ false
-not-5 g = sym (g .before .stray-entry .ensures) ∙ g .if4 .left
+    entries-row _ _ (not-2 (g .before .before .before .before .before)) (not-3 (g .before .before .before)) (not-4 g) _
+    (c .before .check-entries .ensures) (c .if4 .taken)
 
 returns-5 : tie.Need-returns-5
 returns-5 c =
-    let h = c .before .before in
-    let g = h .before .before in
-    row-6 _ _ (not-2 (g .before .before .before .before .before)) (not-3 (g .before .before .before)) (not-4 g)
-    (not-5 h) (sym (c .before .unordered .ensures) ∙ c .if5 .taken)
-
-returns-6 : tie.Need-returns-6
-returns-6 c =
-    let h = c .before .before in
-    let g = h .before .before in
+    let g = c .before .before in
+    let none : c .before .check-entries .result ≡ 0 = omega (arith, c .if4 .left) in
     ap (λ values. (0, values)) (values-are _ _ (g .before .before .header-at .ensures))
     ∙ row-none _ _ (not-2 (g .before .before .before .before .before)) (not-3 (g .before .before .before)) (not-4 g)
-    (not-5 h) (sym (c .before .unordered .ensures) ∙ c .if5 .left)
+    (sym (c .before .check-entries .ensures) ∙ none)
 
 pub check-list-spec : {M : Type 1} → statement M
 check-list-spec =
@@ -99,8 +84,6 @@ check-list-spec =
     header-at-requires
     list-length-requires
     returns-3
-    stray-entry-requires
+    check-entries-requires
     returns-4
-    unordered-requires
-    returns-5
-    returns-6)
+    returns-5)

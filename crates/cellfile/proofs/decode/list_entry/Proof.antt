@@ -4,11 +4,12 @@ use native.Mathlib.Omega.{arith}
 use lib.ListN.{length}
 use borrow.Author.Needs.{needs}
 use Rattle.cellfile.proofs.Lists.{entry-is, entry-place}
+use Rattle.cellfile.proofs.Walk.{part-has}
 use Rattle.cellfile.proofs.decode.list_entry.Statement.{statement}
 use Rattle.cellfile.proofs.decode.list_entry.Tie as tie
 
 fits : (c : tie.Start)
-    → (c .args .shape .start + c .args .shape .bytes * c .args .i ≤ length (c .args .list .now))
+    → (c .args .shape .start + c .args .shape .bytes * c .args .i + c .args .shape .bytes ≤ length (c .args .list .now))
     × (c .args .shape .bytes * c .args .i ≤ 65536)
 fits c = entry-place (c .args .list .now) (c .args .shape) (c .args .i) (c .pre)
 
@@ -28,7 +29,9 @@ part-entry-at-end : tie.Need-part-entry-at-end
 part-entry-at-end c = search needs
 
 entry-at-requires : tie.Need-entry-at-requires
-entry-at-requires c κs = let r = c .before .before .pre .shaped in (r .least, r .most)
+entry-at-requires c κs =
+    let s = c .before .before in
+    let r = s .pre .shaped in (r .least, r .most, part-has _ _ (s .args .list .now) (fits s .0))
 
 returns : tie.Need-returns
 returns c =
