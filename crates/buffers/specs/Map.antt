@@ -2,9 +2,13 @@
 -- these.
 use Prim.Native.Nat.{ℕ}
 
--- First buffer: the weights of the slots stand from 0 on, and from here on the words of their cells.
+-- First buffer: the weights of the slots stand from 0 on, and from here on the words of their cells. While a set of
+-- cells is solved the table of its sets stands there.
 abbrev pub atCells : ℕ
 atCells = 4096
+
+abbrev pub atSets : ℕ
+atSets = 4096
 
 -- Second buffer: the trail stands from 0 on in so many words; then for each cell the sum of its slots and its last
 -- slot, the steps as words of a slip, and the table of partners.

@@ -3,8 +3,11 @@
 // The words that a call needs of each buffer.
 pub const WORDS: usize = 8192;
 
-// First buffer: the weights of the slots stand from 0 on, and from here on the words of their cells.
+// First buffer: the weights of the slots stand from 0 on, and from here on the words of their cells. While a set of
+// cells is solved the table of its sets stands there.
 pub const CELL_WORDS: usize = 4096;
+
+pub const SETS: usize = 4096;
 
 // Second buffer: the trail stands from 0 on in so many words; then for each cell the sum of its slots and its last
 // slot, the steps as words of a slip, and the table of partners.
@@ -25,3 +28,12 @@ pub const PLACES: usize = 7312;
 
 // A row word is a cell above the points of a pair: one of the cell.
 pub const POINTS_UNIT: u64 = 18014398509481984;
+
+// Below this is a cell in every word: in that of a slot the lower cell, and above it the higher one; in that of a step
+// the cell below the rule.
+pub const CELL_FIELD: u64 = 1024;
+
+// One of the first, and of the second, cell of a pair in the word of a pairing.
+pub const PAIR_A: u64 = 16384;
+
+pub const PAIR_B: u64 = 16;

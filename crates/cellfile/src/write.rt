@@ -21,9 +21,7 @@ const COUNT_UNIT: u64 = 16;
 // The points of an entry of a short list are below this; its cells stand above them, the lower one above the other.
 const POINTS_ROOM: u64 = 17592186044416;
 
-const CELLS: u64 = 1024;
-
-const CELL_A: u64 = CELLS * POINTS_ROOM;
+const CELL_A: u64 = map::CELL_FIELD * POINTS_ROOM;
 
 // The last `size` bytes of the number, most significant first.
 fn put_number(v: u64, size: usize, out: &mut [u8])
@@ -59,7 +57,7 @@ fn short_word(x: u64, a: u64) -> u64
     requires { ⌜ (a < 1024) × (x % unit < pointsRoom) ⌝ }
     ensures { λ r. ⌜ r ≡ a * 1024 * pointsRoom + x / unit * pointsRoom + x % unit ⌝ }
 {
-    if a < CELLS {
+    if a < map::CELL_FIELD {
         return a * CELL_A + x / map::POINTS_UNIT * POINTS_ROOM + x % map::POINTS_UNIT;
     }
     0

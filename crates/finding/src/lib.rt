@@ -62,11 +62,11 @@ pub struct Found {
 }
 
 // The rules by their numbers.
-const LEAF: u64 = 1;
+pub const LEAF: u64 = 1;
 
-const RING: u64 = 2;
+pub const RING: u64 = 2;
 
-const CHAIN: u64 = 3;
+pub const CHAIN: u64 = 3;
 
 fn nothing() -> Found
     ensures { λ r. ⌜ told (r .step) ≡ (0, []) ⌝ }

@@ -5,6 +5,7 @@
 // at u loses that much once, at its end.
 use bounds;
 use buffers::map;
+use finding::LEAF;
 use slots::change;
 use slots::read;
 use trail::words;
@@ -93,10 +94,8 @@ fn due(w1: &[u64], w2: &[u64], e: usize, u: usize, c: usize) -> u64
     w1[slot]
 }
 
-const LEAF: u64 = 1;
-
 // How a slip names the leaf step at v, less v.
-const LEAF_NAME: u64 = 1024;
+const LEAF_NAME: u64 = LEAF * map::CELL_FIELD;
 
 // The leaf step at v with its partner u is noted: on the trail at place t, among the names at place k.
 fn note(w2: &mut [u64], t: usize, k: usize, u: usize, v: usize)

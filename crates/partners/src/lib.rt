@@ -1,4 +1,7 @@
 // Inner, for weighing and lifting: a pairing into the table of partners and out of it. See specs/Table.
+use buffers::map::CELL_FIELD;
+use buffers::map::PAIR_A;
+use buffers::map::PAIR_B;
 use buffers::map::TABLE;
 use cellfile::decode;
 use slots::read;
@@ -17,11 +20,6 @@ ghost use Rattle.partners.specs.Entering.{allThere, Empty, Filled};
 // The words of the table.
 const CELLS: usize = 1024;
 
-// The two cells in a word of a pairing.
-const CELL_A: u64 = 16384;
-
-const CELL_B: u64 = 16;
-
 // The pairs of a table of partners of n cells in file order, as words at the start of the first buffer: their number.
 pub fn list_pairs(w1: &mut [u64], w2: &[u64], n: usize) -> usize
     requires { ⌜ ((m : List Pair) × TableThere n (now w1) (now w2) m) ⌝ }
@@ -35,7 +33,7 @@ pub fn list_pairs(w1: &mut [u64], w2: &[u64], n: usize) -> usize
         let low = c as u64;
         c += 1;
         if low + 1 < p {
-            w1[r] = low * CELL_A + (p - 1) * CELL_B;
+            w1[r] = low * PAIR_A + (p - 1) * PAIR_B;
             r += 1;
         }
     }
@@ -125,8 +123,8 @@ fn fill_words(w1: &[u64], r: usize, w2: &mut [u64])
     let mut i = 0;
     while i < r {
         let word = w1[i];
-        let a = (word / CELL_A % CELLS as u64) as usize;
-        let b = (word / CELL_B % CELLS as u64) as usize;
+        let a = (word / PAIR_A % CELL_FIELD) as usize;
+        let b = (word / PAIR_B % CELL_FIELD) as usize;
         w2[TABLE + a] = b as u64 + 1;
         w2[TABLE + b] = a as u64 + 1;
         i += 1;

@@ -3,11 +3,15 @@ pub mod lists;
 
 use bounds;
 use buffers;
+use buffers::map::CELL_FIELD;
 use buffers::map::NAMES;
 use buffers::map::TRAIL_WORDS;
 use cellfile::decode;
 use finding;
+use finding::CHAIN;
 use finding::Found;
+use finding::LEAF;
+use finding::RING;
 use finding::Step;
 use leaves;
 use taking;
@@ -41,16 +45,23 @@ pub struct Name {
     pub cell: usize,
 }
 
-const RULE_UNIT: u64 = 1024;
-
 // The name of a step; of none it is 0, 0.
 fn name_of(step: Step) -> Name
     ensures { λ r. ⌜ Names (told step) r ⌝ }
 {
     match step {
-        Step::Leaf { v, u: _ } => Name { rule: 1, cell: v },
-        Step::Ring { u: _, z } => Name { rule: 2, cell: z },
-        Step::Chain { u: _, v: _, z } => Name { rule: 3, cell: z },
+        Step::Leaf { v, u: _ } => Name {
+            rule: LEAF,
+            cell: v,
+        },
+        Step::Ring { u: _, z } => Name {
+            rule: RING,
+            cell: z,
+        },
+        Step::Chain { u: _, v: _, z } => Name {
+            rule: CHAIN,
+            cell: z,
+        },
         Step::None => Name { rule: 0, cell: 0 },
     }
 }
@@ -103,7 +114,7 @@ fn write_name(w2: &mut [u64], k: usize, name: Name) -> usize
     ensures { λ r. ⌜ (r ≡ k + 1)
         × (now (w2 .exit) ≡ set (now (w2 .entry)) (atNames + k) (name .rule * 1024 + name .cell)) ⌝ }
 {
-    w2[NAMES + k] = name.rule * RULE_UNIT + name.cell as u64;
+    w2[NAMES + k] = name.rule * CELL_FIELD + name.cell as u64;
     k + 1
 }
 

@@ -7,6 +7,7 @@ use native.Mathlib.Omega.{arith}
 use native.Mathlib.Numerals.{add-one}
 use lib.ListN.{length, length-set, length-map, set, take}
 use lib.Seq.{take-take, take-suc-set, append-snoc, length-take-le}
+use Rattle.buffers.specs.Map.{atSets}
 use Rattle.sets.specs.Sets.{inSet, heaviest, pairOf, Lowest, partnered, Partner, Kept, Ready}
 use Rattle.sets.proofs.Places.{fewer-first, fewer-next, places-few}
 use Rattle.sets.proofs.Heaviest.{heaviest-none}
@@ -27,8 +28,8 @@ module _ {ws w0 w1 w2 : List ℕ} {s left n b c r : ℕ} (f : Found ws w0 w1 s l
     (h : Partner (left - b) r × (heaviest ws left ≡ partnered ws c (left - b) r)) where
   stands : take n w1 ≡ take n w2
   stands =
-      let l : n ≤ 4096 = omega (arith, f .few) in
-      sym (take-take n 4096 w1 l) ∙ ap (take n) (sym (k .front)) ∙ take-take n 4096 w2 l
+      let l : n ≤ atSets = omega (arith, f .few) in
+      sym (take-take n atSets w1 l) ∙ ap (take n) (sym (k .front)) ∙ take-take n atSets w2 l
 
   on : {i : ℕ} → r ≡ i → map (pairOf ws) (heaviest ws s) ≡ take n w2 ++ map (pairOf ws) (partnered ws c (left - b) i)
   on q = f .all ∙ ap₂ (λ xs m. xs ++ map (pairOf ws) m) stands (h .1 ∙ ap (partnered ws c (left - b)) q)

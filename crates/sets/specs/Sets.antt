@@ -3,7 +3,7 @@
 -- promise is `solve` of crate matching.
 --
 -- The first words: the points between place i and place j at 12 × i + j, and from 144 on the cells. In the buffer that
--- is written, the pairs found stand from 0 on, and from 4,096 on for each set 0, or its word (`Best`).
+-- is written, the pairs found stand from 0 on, and from `atSets` on for each set 0, or its word (`Best`).
 use mathlib.Core.Path.{_≡_}
 use mathlib.Core.Bool.{cond}
 use mathlib.Core.List.{List, [], _∷_, _++_}
@@ -14,7 +14,7 @@ use Rattle.matching.specs.Pairs.{Pair, Points, sum}
 use Rattle.matching.specs.Solve.{solve}
 use Rattle.cellfile.specs.Fields.{packed}
 use Rattle.cellfile.specs.Files.{pairing}
-use Rattle.buffers.specs.Map.{unit}
+use Rattle.buffers.specs.Map.{unit, atSets}
 
 -- The places below k that are in the set, ascending.
 unfoldable pub places : ℕ → ℕ → List ℕ
@@ -64,13 +64,13 @@ pub record Best (ws : List ℕ) (s v : ℕ) : Type 0 where
 
 -- What is known of sets is right.
 abbrev pub Known : List ℕ → List ℕ → Type 0
-Known ws w1 = (s : ℕ) → s < 4096 → 0 < getD w1 (4096 + s) 0 → Best ws s (getD w1 (4096 + s) 0)
+Known ws w1 = (s : ℕ) → s < 4096 → 0 < getD w1 (atSets + s) 0 → Best ws s (getD w1 (atSets + s) 0)
 
 -- The buffer w1 where it was w0: what is known is right, and the pairs found stand.
 pub record Kept (ws w0 w1 : List ℕ) : Type 0 where
   pub long : length w1 ≡ length w0
   pub known : Known ws w1
-  pub front : take 4096 w1 ≡ take 4096 w0
+  pub front : take atSets w1 ≡ take atSets w0
 
 -- The points between places stay below `unit`: those of 12 pairs have less than 58 bits, and a word has room for them.
 pub record Ready (ws w1 : List ℕ) (s : ℕ) : Type 0 where

@@ -1,24 +1,18 @@
 // Inner, for solving: the heaviest pairing of a set of at most 12 cells, by their places. See specs/Sets.
+use buffers::map;
 ghost use mathlib.Core.Path.{_≡_};
 ghost use mathlib.Core.List.{map};
 ghost use Prim.Native.Nat.{_^_, _<_, _≤_};
 ghost use lib.ListN.{length, take};
 ghost use Rattle.sets.specs.Sets.{heaviest, cellAt, pairOf, Lowest, Best, Kept, Ready};
 
-// How many places there are; where the cells start among the first words, and the table in the buffer.
-const PLACES: usize = 12;
+// How many places there are, and where their cells start behind the points.
+pub const MOST: usize = 12;
 
-const CELLS: usize = 144;
-
-const TABLE: usize = 4096;
+const CELLS: usize = map::PLACES - map::POINTS;
 
 // One of the points in the word of a set, above the partner and 1.
 const POINT: u64 = 16;
-
-// One of the first, and of the second, cell of a pair in the word of a pairing.
-const CELL_A: u64 = 16384;
-
-const CELL_B: u64 = 16;
 
 // The lowest place of the set.
 fn lowest(s: usize) -> usize
@@ -49,7 +43,7 @@ fn heavy(ws: &[u64], w1: &mut [u64], s: usize) -> u64
     if s == 0 {
         return 1;
     }
-    let have = w1[TABLE + s];
+    let have = w1[map::SETS + s];
     if have != 0 {
         return have;
     }
@@ -58,11 +52,11 @@ fn heavy(ws: &[u64], w1: &mut [u64], s: usize) -> u64
     let mut best = heavy(ws, w1, rest) / POINT;
     let mut partner = 0;
     let mut p = 0;
-    while p < PLACES {
+    while p < MOST {
         let q = p;
         p += 1;
         if (rest >> q) % 2 == 1 {
-            let x = ws[PLACES * c + q];
+            let x = ws[MOST * c + q];
             if 0 < x {
                 let y = x + heavy(ws, w1, rest - single(q)) / POINT;
                 if best < y {
@@ -73,7 +67,7 @@ fn heavy(ws: &[u64], w1: &mut [u64], s: usize) -> u64
         }
     }
     let word = best * POINT + partner as u64 + 1;
-    w1[TABLE + s] = word;
+    w1[map::SETS + s] = word;
     word
 }
 
@@ -85,7 +79,7 @@ fn pair_word(ws: &[u64], i: usize, j: usize) -> u64
 {
     let a = ws[CELLS + i];
     let b = ws[CELLS + j];
-    a * CELL_A + b * CELL_B
+    a * map::PAIR_A + b * map::PAIR_B
 }
 
 // The pairs of the heaviest pairing of the set s, as words of a pairing in file order, at the start of the buffer:

@@ -33,8 +33,8 @@ pub fn kill(w1: &mut [u64], w2: &mut [u64], e: usize, i: usize)
         (now (w1 .exit)) (now (w2 .entry)) (now (w2 .exit)) × (now (w1 .exit) ≡ set (now (w1 .entry)) i 0) ⌝ }
 {
     let x = w1[map::CELL_WORDS + i];
-    let a = (x % 1024) as usize;
-    let b = (x / 1024 % 1024) as usize;
+    let a = (x % map::CELL_FIELD) as usize;
+    let b = (x / map::CELL_FIELD % map::CELL_FIELD) as usize;
     w1[i] = 0;
     words::take_keys(w2, i, a, b);
 }
@@ -113,8 +113,8 @@ pub fn pack(w1: &mut [u64], w2: &mut [u64], e: usize) -> usize
                 w1,
                 w2,
                 j,
-                (x % 1024) as usize,
-                (x / 1024 % 1024) as usize,
+                (x % map::CELL_FIELD) as usize,
+                (x / map::CELL_FIELD % map::CELL_FIELD) as usize,
                 w,
             );
             j += 1;

@@ -72,7 +72,7 @@ pub fn partner(w1: &[u64], w2: &[u64], e: usize, c: usize, i: usize) -> usize
     ensures { λ r. ⌜ Joins e (now (w1 .entry)) i c r × (r < 1024) ⌝ }
 {
     let x = w1[map::CELL_WORDS + i];
-    (x % 1024) as usize + (x / 1024 % 1024) as usize - c
+    (x % map::CELL_FIELD) as usize + (x / map::CELL_FIELD % map::CELL_FIELD) as usize - c
 }
 
 // The live slot that joins u and v, its number + 1, or 0 where there is none.
@@ -85,7 +85,7 @@ pub fn find(w1: &[u64], w2: &[u64], e: usize, u: usize, v: usize) -> usize
         let at = i - 1;
         let x = w1[map::CELL_WORDS + at];
         if w1[at] != 0 {
-            if (x % 1024 + x / 1024 % 1024) as usize == u + v {
+            if (x % map::CELL_FIELD + x / map::CELL_FIELD % map::CELL_FIELD) as usize == u + v {
                 return i;
             }
         }

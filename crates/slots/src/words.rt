@@ -10,8 +10,6 @@ const KEY_ONE: u64 = 70368744177664;
 
 const KEY_PARTNER: u64 = 16777216;
 
-const HIGH_CELL: u64 = 1024;
-
 const LOW_LINK: u64 = 1048576;
 
 const HIGH_LINK: u64 = 8589934592;
@@ -28,7 +26,7 @@ pub fn cell_word(a: usize, b: usize, low_link: u64, high_link: u64) -> u64
     requires { ⌜ (a < 1024) × (b < 1024) × («low_link» ≤ 4096) × («high_link» ≤ 4096) ⌝ }
     ensures { λ r. ⌜ r ≡ a + b * 1024 + «low_link» * 1048576 + «high_link» * 8589934592 ⌝ }
 {
-    a as u64 + b as u64 * HIGH_CELL + low_link * LOW_LINK + high_link * HIGH_LINK
+    a as u64 + b as u64 * map::CELL_FIELD + low_link * LOW_LINK + high_link * HIGH_LINK
 }
 
 // The link of slot i for its cell c.
@@ -37,7 +35,7 @@ pub fn link(w1: &[u64], i: usize, c: usize) -> usize
     ensures { λ r. ⌜ r ≡ linkOf (now (w1 .entry)) i c ⌝ }
 {
     let x = w1[map::CELL_WORDS + i];
-    if (x % HIGH_CELL) as usize == c {
+    if (x % map::CELL_FIELD) as usize == c {
         return (x / LOW_LINK % 8192) as usize;
     }
     (x / HIGH_LINK) as usize

@@ -13,7 +13,7 @@ use lib.ListN.{length, getD, take, drop, length-map, length-drop, length-replica
 use lib.Seq.{take-suc, take-all, length-take-le, getD-take, getD-drop}
 use lib.Pow.{pow-pos, pow-mono, ones-split, ones-lt, high}
 use borrow.Author.Tests.{eq-eqb, ne-eqb}
-use Rattle.buffers.specs.Map.{atPoints, atPlaces}
+use Rattle.buffers.specs.Map.{atSets, atPoints, atPlaces}
 use Rattle.matching.specs.Lists.{All}
 use Rattle.matching.specs.Pairs.{Points}
 use Rattle.matching.specs.Solve.{solve, withPairs, solution}
@@ -145,7 +145,7 @@ set-ready {k} {s} {w1} {w1′} {w2} p e q = record {
   room = omega (arith, long, p .room1);
   light = λ i l. rw (set-word w2 i (omega arith)) (omega (arith, p .light i l));
   cells = λ i l. rw (set-cell w2 i l) (p .cells i l);
-  known = λ x l b. absurd (omega (arith, none (4096 + x) (omega (arith, p .room1))));
+  known = λ x l b. absurd (omega (arith, none (atSets + x) (omega (arith, p .room1))));
 }
   where
     long : length w1′ ≡ length w1

@@ -3,6 +3,7 @@ use buffers;
 use buffers::map::PLACES;
 use buffers::map::POINTS;
 use sets;
+use sets::MOST;
 use slots::read;
 ghost use mathlib.Core.Path.{_≡_};
 ghost use Prim.Native.Nat.{_-_, _^_, _<_, _≤_};
@@ -18,8 +19,6 @@ pub enum Solved {
     Crowded,
     Pairs(usize),
 }
-
-const MOST: usize = 12;
 
 // The end of the words for crate sets.
 const END: usize = PLACES + MOST;

@@ -1,6 +1,9 @@
 // Inner, for the reduction: takes a step that was found. See specs/Applying, and specs/Parts for its parts.
 use finding;
+use finding::CHAIN;
 use finding::Found;
+use finding::LEAF;
+use finding::RING;
 use putting;
 use slots::change;
 use trail;
@@ -61,12 +64,6 @@ fn clear_row(
     let slots = room(w1, w2, e);
     Cleared { slots, pairs }
 }
-
-const LEAF: u64 = 1;
-
-const RING: u64 = 2;
-
-const CHAIN: u64 = 3;
 
 // The leaf step at v, whose only pair is that of slot i, with u.
 fn take_leaf(

@@ -1,6 +1,9 @@
 // Inner, for the reduction and the way back: the words of the trail, written and read. See specs/Trail; that reading
 // gives back what was written: proofs/Trail.
 use buffers::map;
+use finding::CHAIN;
+use finding::LEAF;
+use finding::RING;
 use finding::Step;
 ghost use mathlib.Core.Path.{_≡_};
 ghost use Prim.Native.Nat.{_+_, _*_, _<_, _≤_};
@@ -10,8 +13,6 @@ ghost use Rattle.trail.specs.Trail.{closing, stepIn, pairsIn, moreIn, ce
 
 // The places of the closing word's parts.
 const RULES: u64 = 4;
-
-const CELLS: u64 = 1024;
 
 const CELL_U: u64 = 4;
 
@@ -41,16 +42,16 @@ pub fn step_of(word: u64) -> Step
     ensures { λ r. ⌜ told r ≡ stepIn word ⌝ }
 {
     let rule = word % RULES;
-    let u = (word / CELL_U % CELLS) as usize;
-    let v = (word / CELL_V % CELLS) as usize;
-    let z = (word / CELL_Z % CELLS) as usize;
-    if rule == 1 {
+    let u = (word / CELL_U % map::CELL_FIELD) as usize;
+    let v = (word / CELL_V % map::CELL_FIELD) as usize;
+    let z = (word / CELL_Z % map::CELL_FIELD) as usize;
+    if rule == LEAF {
         return Step::Leaf { v, u };
     }
-    if rule == 2 {
+    if rule == RING {
         return Step::Ring { u, z };
     }
-    if rule == 3 {
+    if rule == CHAIN {
         return Step::Chain { u, v, z };
     }
     Step::None

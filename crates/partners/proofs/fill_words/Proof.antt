@@ -30,12 +30,6 @@ shared-slice-read-word c =
     let p = c .before .before .before .pre .0 .1 in
     omega (arith, p .most, p .room1)
 
-rem-a : tie.Need-rem-a Inv-loop μ-loop
-rem-a c = search needs
-
-rem-b : tie.Need-rem-b Inv-loop μ-loop
-rem-b c = search needs
-
 add-w2 : tie.Need-add-w2 Inv-loop μ-loop
 add-w2 c = search needs
 
@@ -94,8 +88,6 @@ fill-words-spec =
     loop-holds
     mul-word
     shared-slice-read-word
-    rem-a
-    rem-b
     add-w2
     add-w2-2
     mul-w2
