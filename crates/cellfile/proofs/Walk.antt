@@ -29,9 +29,6 @@ fromPlace at s = take (length s - at) (drop at s)
 pub from-place : (at : ℕ) (s : List ℕ) → fromPlace at s ≡ drop at s
 from-place at s = take-all (length s - at) (drop at s) (omega (arith, length-drop at s))
 
-pub part-has : (at k : ℕ) (s : List ℕ) → at + k ≤ length s → k ≤ length (fromPlace at s)
-part-has at k s l = omega (arith, ap (λ (t : List ℕ). length t) (from-place at s), length-drop at s)
-
 -- ---- the record at a place
 
 pub record-in : (ws s : List ℕ) (m i : ℕ) → i < m → getD (readRecords ws m s) i [] ≡ readRecord ws (drop (size ws * i)

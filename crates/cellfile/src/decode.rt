@@ -1,5 +1,9 @@
 // Inner: reads a file. The fields of a record at the start of a part of it, where missing bytes read as 0; and the
 // record at a place, which is handed on as the part that starts at it.
+use crate::format::ENTRY_BYTES;
+use crate::format::HEADER_BYTES;
+use crate::format::PAIR_BYTES;
+use crate::format::STEP_BYTES;
 ghost use mathlib.Core.Path.{_≡_};
 ghost use Prim.Native.Nat.{_<_, _≤_};
 ghost use lib.ListN.{length, getD};
@@ -92,7 +96,7 @@ pub fn number_at(s: &[u8], size: usize) -> u64
 pub fn header_at(s: &[u8]) -> Header
     ensures { λ r. ⌜ HeaderRead (now (s .entry)) r ⌝ }
 {
-    let v = number_at(s, 4);
+    let v = number_at(s, HEADER_BYTES);
     Header {
         kind: v / BITS_28 % BITS_4,
         n: (v / BITS_17 % BITS_11) as usize,
@@ -137,14 +141,6 @@ pub fn pair_at(s: &[u8]) -> PairEntry
         zeros: v % BITS_4,
     }
 }
-
-const HEADER_BYTES: usize = 4;
-
-const ENTRY_BYTES: usize = 5;
-
-const STEP_BYTES: usize = 2;
-
-const PAIR_BYTES: usize = 3;
 
 // The shape of a list, by its bytes.
 pub fn shape_of(list: &[u8]) -> Shape

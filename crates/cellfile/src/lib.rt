@@ -1,3 +1,5 @@
-// Inner, for the calls: the files. `decode` reads the fields of a record, `write` writes a file.
+// Inner, for the calls: the files. `format` has their numbers, `decode` reads the fields of a record, `write` writes a
+// file.
 pub mod decode;
+pub mod format;
 pub mod write;

@@ -1,6 +1,7 @@
 // Inner: writes a file into an output. Its first bytes are the file, the others are unchanged. The caller has found
 // that the output has room. Entries come as words, each the number of a record, of which the low bits count; those of a
 // short list as rows and cells in the first work buffer.
+use crate::format;
 use buffers::map;
 ghost use mathlib.Core.Path.{_≡_};
 ghost use mathlib.Core.List.{_∷_, [], map};
@@ -74,10 +75,10 @@ fn put_rows(w1: &[u64], count: usize, out: &mut [u8])
     while i < count {
         put_number(
             short_word(w1[i], w1[map::CELL_WORDS + i]),
-            8,
+            format::SHORT_BYTES,
             &mut out[at..],
         );
-        at += 8;
+        at += format::SHORT_BYTES;
         i += 1;
     }
 }
@@ -88,7 +89,7 @@ fn put_header(kind: u64, n: usize, m: usize, out: &mut [u8])
 {
     put_number(
         kind * KIND_UNIT + n as u64 * CELLS_UNIT + m as u64 * COUNT_UNIT,
-        4,
+        format::HEADER_BYTES,
         out,
     );
 }
@@ -99,8 +100,13 @@ pub fn write_slip(n: usize, steps: &[u64], m: usize, out: &mut [u8])
     ensures { λ _. ⌜ now (out .exit)
         ≡ onto (writeFile slip (fileOf slip n [] (take m (now (steps .entry))))) (now (out .entry)) ⌝ }
 {
-    put_header(3, n, m, out);
-    put_words(steps, m, 2, &mut out[4..]);
+    put_header(format::SLIP, n, m, out);
+    put_words(
+        steps,
+        m,
+        format::STEP_BYTES,
+        &mut out[format::HEADER_BYTES..],
+    );
 }
 
 // A pairing of n cells whose pairs are the first m words.
@@ -109,8 +115,13 @@ pub fn write_pairing(n: usize, pairs: &[u64], m: usize, out: &mut [u8])
     ensures { λ _. ⌜ now (out .exit)
         ≡ onto (writeFile pairing (fileOf pairing n [] (take m (now (pairs .entry))))) (now (out .entry)) ⌝ }
 {
-    put_header(4, n, m, out);
-    put_words(pairs, m, 3, &mut out[4..]);
+    put_header(format::PAIRING, n, m, out);
+    put_words(
+        pairs,
+        m,
+        format::PAIR_BYTES,
+        &mut out[format::HEADER_BYTES..],
+    );
 }
 
 // A short list of n cells with its carried points, whose entries are the first m rows.
@@ -120,7 +131,11 @@ pub fn write_short(n: usize, carried: u64, w1: &[u64], m: usize, out: &mut [u8])
         ≡ onto (writeFile shortList (record { cells = n; extra = carried ∷ []; entries = map asFields es }))
         (now (out .entry))) ⌝ }
 {
-    put_header(2, n, m, out);
-    put_number(carried, 8, &mut out[4..]);
-    put_rows(w1, m, &mut out[12..]);
+    put_header(format::SHORT_LIST, n, m, out);
+    put_number(
+        carried,
+        format::CARRIED_BYTES,
+        &mut out[format::HEADER_BYTES..],
+    );
+    put_rows(w1, m, &mut out[format::SHORT_START..]);
 }

@@ -24,6 +24,18 @@ pub answer-refused : (n k v : ℕ) (vs : List ℕ) → (k, []) ≡ answer n (v �
 answer-refused zero k v vs e = absurd (omega (arith, ap (λ (a : Answer). length (a .1)) e))
 answer-refused (suc n) k v vs e = (omega arith, ap (λ (a : Answer). a .0) e)
 
+-- a refusal's number is that of the rows
+pub answer-number : (n k : ℕ) (vs : List ℕ) → 0 < k → (answer n vs ≡ (k, [])) ↔ (n ≡ k)
+answer-number n k vs h = (λ e. number n e, λ e. ap (λ j. answer j vs) e ∙ refused k h)
+  where
+    number : (n : ℕ) → answer n vs ≡ (k, []) → n ≡ k
+    number zero e = ap (λ (a : Answer). a .0) e
+    number (suc n) e = ap (λ (a : Answer). a .0) e
+
+    refused : (k : ℕ) → 0 < k → answer k vs ≡ (k, [])
+    refused zero h = absurd (omega arith)
+    refused (suc k) h = refl
+
 -- an answer with the number 0 is no refusal
 pub answer-accepted : (n : ℕ) (us vs : List ℕ) → (0, us) ≡ answer n vs → (n ≡ 0) × (us ≡ vs)
 answer-accepted zero us vs e = (refl, ap (λ (a : Answer). a .1) e)
@@ -49,11 +61,8 @@ module _ (rows more : List Row) (values : List ℕ) where
       → (k, []) ≡ answer (first (rows ++ more)) values
   layer-refused k v vs e =
       let r = answer-refused (first rows) k v vs e in
-      same (first rows) (r .0) (r .1) ∙ ap (λ n. answer n values) (sym (first-refused rows more (r .0)))
-    where
-      same : (n : ℕ) → 0 < n → k ≡ n → (k, []) ≡ answer n values
-      same zero h p = absurd (omega arith)
-      same (suc n) h p = rw p
+      sym (answer-number (first (rows ++ more)) k values (omega (arith, r)) .1
+      (first-refused rows more (r .0) ∙ sym (r .1)))
 
   pub layer-passed : {a : Answer} → All (λ (r : Row). 0 < r .0) rows → first rows ≡ 0
       → a ≡ answer (first more) values → a ≡ answer (first (rows ++ more)) values
@@ -98,18 +107,6 @@ first-at (r ∷ rows) more k t h p q e = go (r .1) e (first-at rows more k t h (
 first-here : (rows more : List Row) (k : ℕ) (t : Bool) → All (λ (r : Row). r .1 ≡ false) rows → t ≡ true
     → first (rows ++ (k, t) ∷ more) ≡ k
 first-here rows more k t p e = first-passed rows ((k, t) ∷ more) p ∙ ap (λ (s : Bool). cond s k (first more)) e
-
--- a refusal's number is that of the rows
-pub answer-number : (n k : ℕ) (vs : List ℕ) → 0 < k → (answer n vs ≡ (k, [])) ↔ (n ≡ k)
-answer-number n k vs h = (λ e. number n e, λ e. ap (λ j. answer j vs) e ∙ refused k h)
-  where
-    number : (n : ℕ) → answer n vs ≡ (k, []) → n ≡ k
-    number zero e = ap (λ (a : Answer). a .0) e
-    number (suc n) e = ap (λ (a : Answer). a .0) e
-
-    refused : (k : ℕ) → 0 < k → answer k vs ≡ (k, [])
-    refused zero h = absurd (omega arith)
-    refused (suc k) h = refl
 
 module _ (list lent : List ℕ) (more : List Row) where
   abbrev called : List Row

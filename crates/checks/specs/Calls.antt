@@ -5,8 +5,11 @@ use Prim.Native.Nat.{ℕ}
 use mathlib.Core.Bool.{Bool}
 use mathlib.Core.List.{List, [], _∷_, _++_, map}
 use lib.ListN.{length}
+use Rattle.matching.specs.Pairs.{Points}
+use Rattle.cellfile.specs.Files.{pairsOf}
 use Rattle.cellfile.specs.Answers.{Answer, answer}
-use Rattle.checks.specs.Refusals.{Row, first, fewWords, lists, listRows, shortOutput}
+use Rattle.checks.specs.Refusals.{Row, first, fewWords, lists, listRows, badPairing, noPairing, crowded}
+use Rattle.checks.specs.Refusals.{shortOutput}
 use Rattle.checks.specs.declared.Lengths.{Lengths}
 use Rattle.checks.specs.declared.Lengths.the-variants.{Refused, One, Two}
 
@@ -19,6 +22,16 @@ answered (Two first second) = (0, first ∷ second ∷ [])
 -- Refusals 1 to 6: `few` says whether a work buffer has too few words.
 abbrev pub callRows : Bool → List ℕ → List Row
 callRows few list = (1, few) ∷ listRows lists list
+
+-- Rows that calls have of their own: 9 and 10 of a pairing for a graph of n cells, and 11 of the cells left.
+abbrev pub formRow : ℕ → List ℕ → Row
+formRow n pairing = (9, badPairing n pairing)
+
+abbrev pub holdRow : Points → List ℕ → Row
+holdRow there pairing = (10, noPairing there (pairsOf pairing))
+
+abbrev pub crowdedRow : ℕ → Row
+crowdedRow left = (11, crowded left)
 
 abbrev pub roomRow : List (ℕ × List ℕ) → Row
 roomRow outs = (12, shortOutput outs)

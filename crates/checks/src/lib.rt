@@ -2,6 +2,7 @@
 // in a list.
 use buffers::map::WORDS;
 use cellfile::decode;
+use cellfile::format;
 ghost use mathlib.Core.Path.{_≡_};
 ghost use mathlib.Core.List.{_∷_, []};
 ghost use Prim.Native.Nat.{ℕ, _≤_, _<_};
@@ -30,12 +31,6 @@ pub enum Lengths {
     Two { first: usize, second: usize },
 }
 
-const STORE_LIST: u64 = 1;
-
-const SLIP: u64 = 3;
-
-const PAIRING: u64 = 4;
-
 const MOST_CELLS: usize = 1024;
 
 const MOST_ENTRIES: usize = 4096;
@@ -48,7 +43,7 @@ fn not_a_list(list: &[u8]) -> bool
         return true;
     }
     let h = decode::header_at(list);
-    if h.kind != STORE_LIST {
+    if h.kind != format::STORE_LIST {
         return true;
     }
     h.zeros != 0
@@ -155,7 +150,7 @@ fn wrong_head(s: &[u8], kind: u64, bytes: usize, n: usize) -> bool
     if h.zeros != 0 {
         return true;
     }
-    s.len() != 4 + bytes * h.m
+    s.len() != format::HEADER_BYTES + bytes * h.m
 }
 
 // Whether some step has a rule below `low` or above `high`.
@@ -210,7 +205,7 @@ pub fn check_slip(slip: &[u8], n: usize, low: u64, high: u64) -> Checked
     ensures { λ r. ⌜ checked r ≡ answer (first ((7, badSlip (low, high) n (now (slip .entry))) ∷ []))
         (n ∷ countOf (now (slip .entry)) ∷ []) ⌝ }
 {
-    if wrong_head(slip, SLIP, 2, n) {
+    if wrong_head(slip, format::SLIP, format::STEP_BYTES, n) {
         return Checked::Refused(7);
     }
     let h = decode::header_at(slip);
@@ -226,7 +221,7 @@ pub fn check_pairing(pairing: &[u8], n: usize) -> Checked
     ensures { λ r. ⌜ checked r ≡ answer (first ((9, badPairing n (now (pairing .entry))) ∷ []))
         (n ∷ countOf (now (pairing .entry)) ∷ []) ⌝ }
 {
-    if wrong_head(pairing, PAIRING, 3, n) {
+    if wrong_head(pairing, format::PAIRING, format::PAIR_BYTES, n) {
         return Checked::Refused(9);
     }
     let h = decode::header_at(pairing);

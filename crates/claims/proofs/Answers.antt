@@ -15,23 +15,24 @@ use Rattle.matching.specs.Steps.{Step}
 use Rattle.matching.specs.Slip.{SomeStepNot}
 use Rattle.matching.proofs.Reduce.{replay-not}
 use Rattle.cellfile.specs.Files.{cellsOf, stepsOf, pairsOf, asName}
-use Rattle.checks.specs.Refusals.{Row, first, fewWords, rules, badSlip, disallowed, badPairing, noPairing, crowded}
+use Rattle.checks.specs.Refusals.{Row, first, fewWords, rules, badSlip, disallowed, noPairing, crowded}
 use Rattle.checks.specs.Refusals.{shortOutput}
 use Rattle.cellfile.specs.Answers.{answer}
 use Rattle.checks.proofs.Rows.{or-none}
-use Rattle.checks.specs.Calls.{callRows}
+use Rattle.checks.specs.Calls.{callRows, formRow, holdRow, crowdedRow, roomRow}
 use Rattle.checks.proofs.Layers.{call-sound, call-refused}
 use Rattle.weighing.proofs.Weights.{weigh-sound}
 use Rattle.starting.specs.Steps.{graphIn, stepsOn, stand, slipRows, reduceSteps}
 use Rattle.reduction.specs.Calls.{replayShort}
 use Rattle.starting.proofs.OnList.{list-graph}
-use Rattle.lifting.specs.Calls.{graphAfter, bySteps, liftFile, solveFile, pairingFile, pairing}
+use Rattle.lifting.specs.Calls.{graphAfter, bySteps, cellsAfter, liftRows, liftFile, solveRows, solveFile, pairRows}
+use Rattle.lifting.specs.Calls.{pairingFile, pairing}
 use Rattle.claims.specs.Demand.{AcceptedList, Allowed}
 use Rattle.claims.specs.Claims.{leftCells, reduceSlip, reduceShort, Wrote, ZeroTells, Eight, RefusalsTell}
 use Rattle.claims.proofs.Slips.{named}
-use Rattle.claims.proofs.Demand.{roomRow, replayRows, liftRows, reduceRows, stands, ten-just}
-use Rattle.claims.proofs.Solved.{solveRows, countIn, same-count}
-use Rattle.claims.proofs.Paired.{pairRows, same-left}
+use Rattle.claims.proofs.Demand.{withRoom, reduceRows, stands, ten-just}
+use Rattle.claims.proofs.Solved.{same-count}
+use Rattle.claims.proofs.Paired.{same-left}
 
 -- ---- the answer 0
 
@@ -73,12 +74,14 @@ pub zero-tells : ZeroTells
 zero-tells = record {
   replay = λ list slip lent room i e. (
       let a =
-      call-sound list lent (replayRows list slip room) (i ∷ []) (length (replayShort list slip) ∷ []) (omega arith) e in
+      call-sound list lent (withRoom (slipRows list slip) room (replayShort list slip)) (i ∷ [])
+      (length (replayShort list slip) ∷ []) (omega arith) e in
       (allowed-of list slip (a .1) (a .2 .0) (a .2 .1 .0), wrote (a .0) (a .2 .1 .1 .0) (a .3))
       );
   lift = λ list slip pairing lent room i e. (
       let a =
-      call-sound list lent (liftRows list slip pairing room) (i ∷ []) (length (liftFile list slip pairing) ∷ [])
+      call-sound list lent (withRoom (liftRows list slip pairing) room (liftFile list slip pairing)) (i ∷ [])
+      (length (liftFile list slip pairing) ∷ [])
       (omega arith) e in
       let h = allowed-of list slip (a .1) (a .2 .0) (a .2 .1 .0) in (
         h,
@@ -99,7 +102,8 @@ zero-tells = record {
       );
   solve = λ list slip lent room i e. (
       let a =
-      call-sound list lent (solveRows list slip room) (i ∷ []) (length (solveFile list slip) ∷ []) (omega arith) e in
+      call-sound list lent (withRoom (solveRows list slip) room (solveFile list slip)) (i ∷ [])
+      (length (solveFile list slip) ∷ []) (omega arith) e in
       let h = allowed-of list slip (a .1) (a .2 .0) (a .2 .1 .0) in (
         h,
         ltb-false 12 (leftCells list slip) (ap crowded (sym (same-count list slip h)) ∙ a .2 .1 .1 .0),
@@ -107,7 +111,9 @@ zero-tells = record {
       )
       );
   pair = λ list lent room i e. (
-      let a = call-sound list lent (pairRows list room) (i ∷ []) (length (pairingFile list) ∷ []) (omega arith) e in (
+      let a =
+      call-sound list lent (withRoom (pairRows list) room (pairingFile list)) (i ∷ []) (length (pairingFile list) ∷ [])
+      (omega arith) e in (
         a .1,
         ltb-false 12 (leftCells list (reduceSlip list)) (ap crowded (sym (same-left list (a .1))) ∙ a .2 .0),
         wrote (a .0) (a .2 .1 .0) (a .3),
@@ -159,20 +165,20 @@ otherwise false e = ((λ q. absurd (false≢true q)), λ n. absurd (n (e .0 refl
 pub refusals-tell : RefusalsTell
 refusals-tell = record {
   eight = λ list slip. (
-    eight list slip (λ room. roomRow room (replayShort list slip) ∷ []) (length (replayShort list slip) ∷ [])
+    eight list slip (λ room. roomRow ((room, replayShort list slip) ∷ []) ∷ []) (length (replayShort list slip) ∷ [])
         (λ room. ((λ e. omega arith), tt)),
-    eight list slip (λ room. (11, crowded (countIn list slip)) ∷ roomRow room (solveFile list slip) ∷ [])
+    eight list slip (λ room. crowdedRow (cellsAfter list slip) ∷ roomRow ((room, solveFile list slip) ∷ []) ∷ [])
         (length (solveFile list slip) ∷ []) (λ room. ((λ e. omega arith), ((λ e. omega arith), tt))),
-    (λ pairing. eight list slip (λ room. (9, badPairing (cellsOf list) pairing)
-        ∷ (10, noPairing (bySteps list slip (graphIn list) (graphAfter list)) (pairsOf pairing))
-        ∷ roomRow room (liftFile list slip pairing) ∷ [])
+    (λ pairing. eight list slip (λ room. formRow (cellsOf list) pairing
+        ∷ holdRow (bySteps list slip (graphIn list) (graphAfter list)) pairing
+        ∷ roomRow ((room, liftFile list slip pairing) ∷ []) ∷ [])
         (length (liftFile list slip pairing) ∷ [])
         (λ room. ((λ e. omega arith), ((λ e. omega arith), ((λ e. omega arith), tt))))),
   );
   ten-lift = λ list slip pairing lent room. (
       let just =
-      call-refused list lent (slipRows list slip ++ (9, badPairing (cellsOf list) pairing) ∷ [])
-      (roomRow room (liftFile list slip pairing) ∷ []) 10
+      call-refused list lent (slipRows list slip ++ formRow (cellsOf list) pairing ∷ [])
+      (roomRow ((room, liftFile list slip pairing) ∷ []) ∷ []) 10
       (noPairing (bySteps list slip (graphIn list) (graphAfter list)) (pairsOf pairing))
       (length (liftFile list slip pairing) ∷ []) (omega arith)
       ((λ e. omega arith), ((λ e. omega arith), ((λ e. omega arith), tt))) ((λ e. omega arith), tt) in (
@@ -191,8 +197,8 @@ refusals-tell = record {
       );
   eleven-solve = λ list slip lent room. (
       let just =
-      call-refused list lent (slipRows list slip) (roomRow room (solveFile list slip) ∷ []) 11
-      (crowded (countIn list slip)) (length (solveFile list slip) ∷ []) (omega arith)
+      call-refused list lent (slipRows list slip) (roomRow ((room, solveFile list slip) ∷ []) ∷ []) 11
+      (crowded (cellsAfter list slip)) (length (solveFile list slip) ∷ []) (omega arith)
       ((λ e. omega arith), ((λ e. omega arith), tt)) ((λ e. omega arith), tt) in (
         (λ e. (
             let s = just .0 e in
@@ -209,7 +215,7 @@ refusals-tell = record {
       );
   eleven-pair = λ list lent room. (
       let just =
-      call-refused list lent [] (roomRow room (pairingFile list) ∷ []) 11
+      call-refused list lent [] (roomRow ((room, pairingFile list) ∷ []) ∷ []) 11
       (crowded (cellsLeft (cellsOf list) (graphAfter list (reduceSteps list)))) (length (pairingFile list) ∷ [])
       (omega arith) tt ((λ e. omega arith), tt) in (
         (λ e. (

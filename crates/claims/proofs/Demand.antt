@@ -18,12 +18,13 @@ use Rattle.matching.proofs.Reduce.{replay-fits}
 use Rattle.matching.proofs.Demand.{no-gain-no-loss}
 use Rattle.cellfile.specs.Files.{cellsOf, stepsOf, pairsOf, asName}
 use Rattle.checks.specs.Refusals.{Row, badPairing, noPairing, shortOutput}
+use Rattle.checks.specs.Calls.{roomRow}
 use Rattle.checks.proofs.Layers.{call-passes}
 use Rattle.starting.specs.Steps.{graphIn, stand, slipRows}
 use Rattle.reduction.specs.Calls.{replayShort, replaying}
 use Rattle.checks.proofs.Accepted.{accepted-list}
 use Rattle.starting.proofs.OnList.{list-graph}
-use Rattle.lifting.specs.Calls.{graphAfter, liftedFile, bySteps, liftFile, lifting}
+use Rattle.lifting.specs.Calls.{graphAfter, liftedFile, bySteps, liftRows, liftFile, lifting}
 use Rattle.matching.specs.Solve.{solution}
 use Rattle.solving.proofs.Solution.{solution-heaviest}
 use Rattle.lifting.proofs.Filing.{file-read, file-formed, all-entries, lifted-pairing, heaviest-lifted}
@@ -35,25 +36,17 @@ use Rattle.claims.proofs.Slips.{after-pairing, heaviest-after, after-he
 
 -- ---- refusal 12, and the rows of the calls after those of the list
 
-abbrev pub roomRow : ℕ → List ℕ → Row
-roomRow room file = (12, shortOutput ((room, file) ∷ []))
-
 pub room-enough : (room : ℕ) (file : List ℕ) → length file ≤ room → shortOutput ((room, file) ∷ []) ≡ false
 unfolding shortOutput
 room-enough room file l = rw (le-ltb room (length file) l)
 
-abbrev pub replayRows : (list slip : List ℕ) (room : ℕ) → List Row
-replayRows list slip room = slipRows list slip ++ roomRow room (replayShort list slip) ∷ []
-
-abbrev pub liftRows : (list slip pairing : List ℕ) (room : ℕ) → List Row
-liftRows list slip pairing room =
-    slipRows list slip ++ (9, badPairing (cellsOf list) pairing)
-    ∷ (10, noPairing (bySteps list slip (graphIn list) (graphAfter list)) (pairsOf pairing))
-    ∷ roomRow room (liftFile list slip pairing) ∷ []
+-- the rows of a call with one output, and those of reduce
+abbrev pub withRoom : List Row → ℕ → List ℕ → List Row
+withRoom own room file = own ++ roomRow ((room, file) ∷ []) ∷ []
 
 abbrev pub reduceRows : (list : List ℕ) (slipRoom shortRoom : ℕ) → List Row
 reduceRows list slipRoom shortRoom =
-    (12, shortOutput ((slipRoom, reduceSlip list) ∷ (shortRoom, reduceShort list) ∷ [])) ∷ []
+    roomRow ((slipRoom, reduceSlip list) ∷ (shortRoom, reduceShort list) ∷ []) ∷ []
 
 -- ---- a slip that is allowed
 
@@ -63,7 +56,8 @@ module _ (list slip : List ℕ) (h : Allowed list slip) where
 
   replay-writes : Writes (replaying list slip) (replayShort list slip)
   replay-writes lent room enough l =
-      call-passes list lent (replayRows list slip room) (length (replayShort list slip) ∷ []) enough (h .accepted)
+      call-passes list lent (withRoom (slipRows list slip) room (replayShort list slip))
+      (length (replayShort list slip) ∷ []) enough (h .accepted)
       (h .formed, (ap not stands, (room-enough room (replayShort list slip) l, tt)))
 
   whole : NoGainNoLoss (cellsOf list) (storeOf list) (h .steps)
@@ -126,7 +120,8 @@ module _ (list slip : List ℕ) (h : Allowed list slip) where
 
     lift-writes : Writes (lifting list slip pairing) (liftFile list slip pairing)
     lift-writes lent room enough l =
-        call-passes list lent (liftRows list slip pairing room) (length (liftFile list slip pairing) ∷ []) enough
+        call-passes list lent (withRoom (liftRows list slip pairing) room (liftFile list slip pairing))
+        (length (liftFile list slip pairing) ∷ []) enough
         (h .accepted) (
           h .formed,
           (

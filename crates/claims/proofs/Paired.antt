@@ -9,23 +9,18 @@ use Rattle.matching.specs.Listed.{points}
 use Rattle.matching.specs.Graph.{cellsLeft}
 use Rattle.matching.specs.Steps.{name}
 use Rattle.cellfile.specs.Files.{cellsOf, pairsOf, carriedOf}
-use Rattle.checks.specs.Refusals.{Row, crowded}
+use Rattle.checks.specs.Refusals.{crowded}
 use Rattle.weighing.specs.Weigh.{weighing}
 use Rattle.checks.proofs.Layers.{call-passes}
 use Rattle.starting.specs.Steps.{reduceSteps}
 use Rattle.reduction.proofs.Reducing.{reduce-allowed}
-use Rattle.lifting.specs.Calls.{graphAfter, liftedFile, solveFile, liftFile, pairingFile, pairing}
+use Rattle.lifting.specs.Calls.{graphAfter, liftedFile, solveFile, liftFile, pairRows, pairingFile, pairing}
 use Rattle.claims.specs.Demand.{AcceptedList, storeOf, shortOf, HeaviestOf, Writes, Allowed, Liftable}
 use Rattle.claims.specs.Claims.{leftCells, reduceSlip, SolveClaim, LiftClaim, PairClaim}
 use Rattle.claims.proofs.Slips.{slip-allowed, short-graph}
-use Rattle.claims.proofs.Demand.{roomRow, room-enough, same-lifted, demand-three}
+use Rattle.claims.proofs.Demand.{withRoom, room-enough, same-lifted, demand-three}
 use Rattle.claims.proofs.Claims.{lift-claim, reduce-claim}
 use Rattle.claims.proofs.Solved.{solve-read, solve-claim}
-
--- The rows of pair after those of the list.
-abbrev pub pairRows : (list : List ℕ) (room : ℕ) → List Row
-pairRows list room =
-    (11, crowded (cellsLeft (cellsOf list) (graphAfter list (reduceSteps list)))) ∷ roomRow room (pairingFile list) ∷ []
 
 module _ (list : List ℕ) (h : AcceptedList list) where
   abbrev slip : List ℕ
@@ -55,7 +50,7 @@ module _ (list : List ℕ) (h : AcceptedList list) where
 
   pair-writes : leftCells list (reduceSlip list) ≤ 12 → Writes (pairing list) (pairingFile list)
   pair-writes few lent room enough l =
-      call-passes list lent (pairRows list room) (length (pairingFile list) ∷ []) enough h
+      call-passes list lent (withRoom (pairRows list) room (pairingFile list)) (length (pairingFile list) ∷ []) enough h
       (ap crowded same-left ∙ le-ltb 12 (leftCells list slip) few, (room-enough room (pairingFile list) l, tt))
 
   pub pair-claim : PairClaim list

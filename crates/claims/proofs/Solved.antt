@@ -12,12 +12,12 @@ use Rattle.matching.specs.Pairing.{Pairing, First}
 use Rattle.matching.specs.Graph.{cellsLeft}
 use Rattle.matching.specs.Slip.{left}
 use Rattle.cellfile.specs.Files.{cellsOf, pairsOf}
-use Rattle.checks.specs.Refusals.{Row, badPairing, crowded}
+use Rattle.checks.specs.Refusals.{badPairing, crowded}
 use Rattle.checks.proofs.Layers.{call-passes}
-use Rattle.starting.specs.Steps.{graphIn, slipRows}
+use Rattle.starting.specs.Steps.{graphIn}
 use Rattle.reduction.specs.Calls.{replayShort}
 use Rattle.checks.proofs.Accepted.{accepted-list}
-use Rattle.lifting.specs.Calls.{pairFile, graphAfter, solvedFile, bySteps, solveFile, solving}
+use Rattle.lifting.specs.Calls.{pairFile, graphAfter, solvedFile, cellsAfter, solveRows, solveFile, solving}
 use Rattle.matching.specs.Solve.{solution}
 use Rattle.solving.proofs.Solution.{solution-filed, solution-heaviest, solution-first}
 use Rattle.lifting.proofs.Filing.{file-read, file-formed, file-longest}
@@ -25,15 +25,7 @@ use Rattle.claims.specs.Demand.{shortOf, PairingOf, HeaviestOf, Writes, 
 use Rattle.claims.specs.Claims.{leftCells, SolveClaim}
 use Rattle.claims.proofs.Slips.{after, by-steps, graph-after, short-graph, after-pairing, heaviest-after}
 use Rattle.claims.proofs.Slips.{after-heaviest}
-use Rattle.claims.proofs.Demand.{roomRow, room-enough, stands}
-
--- The rows of solve after those of the list, 11 by the number of cells left.
-abbrev pub countIn : (list slip : List ℕ) → ℕ
-countIn list slip = bySteps list slip 0 (λ ss. cellsLeft (cellsOf list) (graphAfter list ss))
-
-abbrev pub solveRows : (list slip : List ℕ) (room : ℕ) → List Row
-solveRows list slip room =
-    slipRows list slip ++ (11, crowded (countIn list slip)) ∷ roomRow room (solveFile list slip) ∷ []
+use Rattle.claims.proofs.Demand.{withRoom, room-enough, stands}
 
 module _ (list slip : List ℕ) (h : Allowed list slip) where
   abbrev it : List Pair
@@ -46,7 +38,7 @@ module _ (list slip : List ℕ) (h : Allowed list slip) where
   held = solution-heaviest (cellsOf list) (after list slip h) (graph-after list slip h) .pairing
 
   -- the rows of solve count the cells of the short list
-  pub same-count : countIn list slip ≡ leftCells list slip
+  pub same-count : cellsAfter list slip ≡ leftCells list slip
   same-count =
       by-steps list slip h 0 (λ ts. cellsLeft (cellsOf list) (graphAfter list ts))
       ∙ ap (cellsLeft (cellsOf list)) (sym (short-graph list slip h))
@@ -62,7 +54,8 @@ module _ (list slip : List ℕ) (h : Allowed list slip) where
 
   solve-writes : leftCells list slip ≤ 12 → Writes (solving list slip) (solveFile list slip)
   solve-writes few lent room enough l =
-      call-passes list lent (solveRows list slip room) (length (solveFile list slip) ∷ []) enough (h .accepted) (
+      call-passes list lent (withRoom (solveRows list slip) room (solveFile list slip))
+      (length (solveFile list slip) ∷ []) enough (h .accepted) (
         h .formed,
         (
           ap not (stands list slip h),

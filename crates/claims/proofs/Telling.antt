@@ -18,13 +18,14 @@ use Rattle.weighing.specs.Weigh.{weighing}
 use Rattle.checks.specs.Calls.{callRows}
 use Rattle.checks.proofs.Layers.{answer-refused, answer-accepted}
 use Rattle.reduction.specs.Calls.{replayShort, replaying}
-use Rattle.lifting.specs.Calls.{lifting, liftFile}
+use Rattle.starting.specs.Steps.{slipRows}
+use Rattle.lifting.specs.Calls.{lifting, liftRows, liftFile}
 use Rattle.claims.specs.Demand.{Allowed, Liftable}
 use Rattle.claims.specs.Claims.{Wrote}
 use Rattle.claims.specs.Asking.{asked, andThen, lifts as liftsAfter, asking, Told, Tells}
 use Rattle.claims.specs.declared.Asked.{Asked}
 use Rattle.claims.specs.declared.Asked.the-variants.{Refused, Answered}
-use Rattle.claims.proofs.Demand.{replayRows, liftRows, demand-three}
+use Rattle.claims.proofs.Demand.{withRoom, demand-three}
 use Rattle.claims.proofs.Answers.{zero-tells}
 
 -- A file is read again from the output that it was written to.
@@ -119,7 +120,8 @@ module _ (g : Given) where
   pub replay-one : {x : Answer} {i j : ℕ} {short′ a′ b′ : List ℕ} → x ≡ (0, i ∷ j ∷ []) → ReplayDid x short′ a′ b′ → ⊥
   replay-one {i = i} {j = j} e r =
       let is = answer-accepted
-      (first (callRows (fewWords words) (g .list) ++ replayRows (g .list) (g .slip) (length (g .short)))) (i ∷ j ∷ [])
+      (first (callRows (fewWords words) (g .list)
+      ++ withRoom (slipRows (g .list) (g .slip)) (length (g .short)) short-file)) (i ∷ j ∷ [])
       (length short-file ∷ []) (sym e ∙ r .0) in
       omega (arith, ap length (is .1))
 
@@ -138,8 +140,8 @@ module _ (g : Given) where
       positive : 0 < k
       positive =
           let q =
-          answer-refused (first (callRows (fewWords words) (g .list) ++ replayRows (g .list) (g .slip) (length (g
-          .short)))) k
+          answer-refused (first (callRows (fewWords words) (g .list)
+          ++ withRoom (slipRows (g .list) (g .slip)) (length (g .short)) short-file)) k
           (length short-file) [] (r .0) in omega (arith, q .0, q .1)
 
       stays : (k : ℕ) → 0 < k → g .lifted ≡ after-lift k
@@ -180,7 +182,8 @@ module _ (g : Given) where
         → LiftDid a′ b′ z lifted′ a″ b″ → ⊥
     lift-one {j = j} {k = k} f l =
         let is = answer-accepted (first (callRows (fewWords (lent a′ b′)) (g .list)
-        ++ liftRows (g .list) (g .slip) (g .pairing) (length (g .lifted)))) (j ∷ k ∷ []) (length lift-file ∷ [])
+        ++ withRoom (liftRows (g .list) (g .slip) (g .pairing)) (length (g .lifted)) lift-file)) (j ∷ k ∷ [])
+        (length lift-file ∷ [])
         (sym f ∙ l .0) in
         omega (arith, ap length (is .1))
 

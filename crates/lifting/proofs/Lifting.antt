@@ -23,16 +23,16 @@ use Rattle.checks.proofs.Rows.{first-none}
 use Rattle.checks.proofs.Layers.{answer-accepted}
 use Rattle.slots.specs.Slots.{graphOf}
 use Rattle.starting.specs.Steps.{graphIn, stepsOn, slipRows}
-use Rattle.checks.specs.Calls.{callRows}
+use Rattle.checks.specs.Calls.{callRows, formRow, holdRow}
 use Rattle.checks.specs.Answering.{Does}
 use Rattle.starting.specs.Starting.{StartDone}
 use Rattle.checks.proofs.Answering.{refused, passed}
 use Rattle.starting.proofs.OnList.{list-graph}
-use Rattle.lifting.specs.Calls.{pairFile, liftFile, liftedFile, graphAfter}
+use Rattle.lifting.specs.Calls.{pairFile, liftRows, liftFile, liftedFile, graphAfter}
 use Rattle.partners.specs.Table.{Entered}
 use Rattle.lifting.specs.Ending.{ReturnThere, Returns}
 use Rattle.lifting.specs.Tail.{after, TailThere}
-use Rattle.lifting.specs.Lifting.{formRow, holdRow, liftRows, backFile, PairingThere, LiftsPairing, LiftsTail}
+use Rattle.lifting.specs.Lifting.{backFile, PairingThere, LiftsPairing, LiftsTail}
 use Rattle.lifting.proofs.After.{return-there, tail-there}
 
 -- ---- refusal 10

@@ -18,17 +18,15 @@ use Rattle.checks.specs.Refusals.{first}
 use Rattle.cellfile.specs.Answers.{Answer, answer}
 use Rattle.slots.specs.Slots.{graphOf}
 use Rattle.starting.specs.Steps.{stepsOn, slipRows}
-use Rattle.checks.specs.Calls.{callRows}
+use Rattle.checks.specs.Calls.{callRows, crowdedRow}
 use Rattle.checks.specs.Answering.{Does}
 use Rattle.starting.specs.Starting.{StartDone}
 use Rattle.checks.proofs.Answering.{refused, passed}
 use Rattle.starting.proofs.OnList.{left-there}
-use Rattle.lifting.specs.Calls.{pairFile, graphAfter, solvedFile, solveFile, bySteps}
+use Rattle.lifting.specs.Calls.{pairFile, graphAfter, solvedFile, cellsAfter, solveRows, solveFile, bySteps}
 use Rattle.matching.specs.Solve.{solution}
 use Rattle.solving.specs.Left.{LeftThere, SolvedIn}
 use Rattle.lifting.specs.Ending.{wordsFile}
-use Rattle.lifting.specs.Tail.{crowdedRow}
-use Rattle.lifting.specs.Solving.{solveRows}
 use Rattle.lifting.proofs.Pairs.{pairs-file}
 use Rattle.solving.proofs.Solution.{solution-filed, solution-cells}
 
@@ -69,14 +67,11 @@ module _ {n e : ℕ} {w1 w2 : List ℕ} (h : LeftThere n e w1 w2) where
 
 -- ---- what a slip leaves
 
-abbrev leftCells : List ℕ → List ℕ → ℕ
-leftCells list slip = bySteps list slip 0 (λ ss. cellsLeft (cellsOf list) (graphAfter list ss))
-
 pub solve-refused : (few : Bool) (list slip out : List ℕ) {k : ℕ}
     → (k, []) ≡ answer (first (callRows few list ++ slipRows list slip)) (0 ∷ [])
     → Does (callRows few list ++ solveRows list slip) ((solveFile list slip, out, out) ∷ []) (k, [])
 solve-refused few list slip out e =
-    refused (callRows few list ++ slipRows list slip) (crowdedRow (leftCells list slip) ∷ []) 0 [] e (refl, tt)
+    refused (callRows few list ++ slipRows list slip) (crowdedRow (cellsAfter list slip) ∷ []) 0 [] e (refl, tt)
 
 module _ (list slip : List ℕ) {n slots trail points steps : ℕ} {w1′ w2′ : List ℕ}
     (d : StartDone list (stepsOn list (stepsOf slip)) n slots trail points steps w1′ w2′) where
@@ -101,11 +96,11 @@ module _ (list slip : List ℕ) {n slots trail points steps : ℕ} {w1′ w2′ 
       ((pairFile n (solution n (graphOf slots w1′)), out, out′) ∷ []) a
       → Does (callRows few list ++ solveRows list slip) ((solveFile list slip, out, out′) ∷ []) a
   solve-passed few z out {out′} {a} p =
-      passed (callRows few list ++ slipRows list slip) (crowdedRow (leftCells list slip) ∷ []) (omega arith) z
+      passed (callRows few list ++ slipRows list slip) (crowdedRow (cellsAfter list slip) ∷ []) (omega arith) z
       (subst (λ k. Does (crowdedRow k ∷ []) ((solveFile list slip, out, out′) ∷ []) a) count
       (subst (λ file. Does (crowdedRow (cellsLeft n (graphOf slots w1′)) ∷ []) ((file, out, out′) ∷ []) a) same p))
     where
-      count : cellsLeft n (graphOf slots w1′) ≡ leftCells list slip
+      count : cellsLeft n (graphOf slots w1′) ≡ cellsAfter list slip
       count = graph-left cellsLeft ∙ by-steps 0 (λ ss. cellsLeft (cellsOf list) (graphAfter list ss))
 
       same : pairFile n (solution n (graphOf slots w1′)) ≡ solveFile list slip

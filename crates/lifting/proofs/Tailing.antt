@@ -21,16 +21,16 @@ use Rattle.cellfile.specs.Answers.{Answer}
 use Rattle.slots.specs.Slots.{graphOf}
 use Rattle.starting.specs.Steps.{graphIn, reduceSteps}
 use Rattle.starting.specs.Starting.{StartDone}
-use Rattle.checks.specs.Calls.{callRows}
+use Rattle.checks.specs.Calls.{callRows, crowdedRow}
 use Rattle.checks.specs.Answering.{Does}
 use Rattle.checks.proofs.Answering.{refused, passed}
 use Rattle.reduction.proofs.Reducing.{reduce-allowed, reduce-after}
 use Rattle.partners.specs.Table.{Mates, TrailKept, WordsThere}
 use Rattle.matching.specs.Solve.{solution}
-use Rattle.lifting.specs.Calls.{pairFile, graphAfter, pairingFile}
+use Rattle.lifting.specs.Calls.{pairFile, graphAfter, pairRows, pairingFile}
 use Rattle.solving.specs.Left.{LeftThere, SolvedIn}
 use Rattle.lifting.specs.Ending.{ReturnThere, Returns}
-use Rattle.lifting.specs.Tail.{after, TailThere, Tails, crowdedRow}
+use Rattle.lifting.specs.Tail.{after, TailThere, Tails}
 use Rattle.lifting.proofs.After.{after-graph, after-small, return-there, tail-there}
 use Rattle.solving.proofs.Solution.{solution-heaviest}
 
@@ -113,7 +113,7 @@ module _ (list : List ℕ) {n slots on-trail points steps : ℕ} {w1 w2 : List �
 
   pub pair-passed : (few : Bool) → first (callRows few list) ≡ 0 → (out : List ℕ) {out′ : List ℕ} {a : Answer}
       → Tails n slots on-trail w1 w2 out out′ a
-      → Does (callRows few list ++ crowdedRow (cellsLeft (cellsOf list) (graphAfter list (reduceSteps list))) ∷ [])
+      → Does (callRows few list ++ pairRows list)
       ((pairingFile list, out, out′) ∷ []) a
   pair-passed few z out {out′} {a} p =
       passed (callRows few list) (crowdedRow (cellsLeft (cellsOf list) (graphAfter list ss)) ∷ []) (omega arith) z

@@ -8,8 +8,8 @@ use Rattle.matching.specs.Graph.{cellsLeft}
 use Rattle.matching.specs.Steps.{Step}
 use Rattle.matching.specs.Slip.{left, lift}
 use Rattle.cellfile.specs.Files.{pairing as pairingLayout, cellsOf, stepsOf, pairsOf, pairFields, writeFile}
-use Rattle.checks.specs.Refusals.{badPairing, noPairing, crowded}
-use Rattle.checks.specs.Calls.{answering}
+use Rattle.checks.specs.Refusals.{Row}
+use Rattle.checks.specs.Calls.{formRow, holdRow, crowdedRow, answering}
 use Rattle.cellfile.specs.Answers.{Answer}
 use Rattle.starting.specs.Steps.{graphIn, stepsOn, slipRows, reduceSteps}
 use Rattle.matching.specs.Solve.{solution}
@@ -18,7 +18,7 @@ use Rattle.matching.specs.Solve.{solution}
 abbrev pub pairFile : ℕ → List Pair → List ℕ
 pairFile n m = writeFile pairingLayout (record { cells = n; extra = []; entries = map pairFields (filed m) })
 
--- What the calls write, and their answers, for the lengths of the work buffers and of the output.
+-- What the calls write, their own refusals, and their answers, for the lengths of the work buffers and of the output.
 module _ (list : List ℕ) where
   abbrev pub cells : ℕ
   cells = cellsOf list
@@ -41,25 +41,26 @@ module _ (list : List ℕ) where
   abbrev pub solveFile : List ℕ → List ℕ
   solveFile slip = bySteps slip [] solvedFile
 
+  abbrev pub cellsAfter : List ℕ → ℕ
+  cellsAfter slip = bySteps slip 0 (λ ss. cellsLeft cells (graphAfter ss))
+
+  abbrev pub solveRows : List ℕ → List Row
+  solveRows slip = slipRows list slip ++ crowdedRow (cellsAfter slip) ∷ []
+
   abbrev pub solving : List ℕ → List ℕ → ℕ → Answer
-  solving slip lent room =
-      answering lent list (slipRows list slip ++ (11, crowded left-cells) ∷ []) ((room, solveFile slip) ∷ [])
-    where
-      left-cells : ℕ
-      left-cells = bySteps slip 0 (λ ss. cellsLeft cells (graphAfter ss))
+  solving slip lent room = answering lent list (solveRows slip) ((room, solveFile slip) ∷ [])
 
   -- Lift.
   abbrev pub liftFile : List ℕ → List ℕ → List ℕ
   liftFile slip pairing = bySteps slip [] (λ ss. liftedFile ss (pairsOf pairing))
 
+  abbrev pub liftRows : List ℕ → List ℕ → List Row
+  liftRows slip pairing =
+      slipRows list slip ++ formRow cells pairing ∷ holdRow (bySteps slip (graphIn list) graphAfter) pairing ∷ []
+
   abbrev pub lifting : List ℕ → List ℕ → List ℕ → ℕ → Answer
   lifting slip pairing lent room =
-      answering lent list
-      (slipRows list slip ++ (9, badPairing cells pairing) ∷ (10, noPairing there (pairsOf pairing)) ∷ [])
-      ((room, liftFile slip pairing) ∷ [])
-    where
-      there : Points
-      there = bySteps slip (graphIn list) graphAfter
+      answering lent list (liftRows slip pairing) ((room, liftFile slip pairing) ∷ [])
 
   -- Pair: reduce, solve, lift.
   abbrev pub pairingFile : List ℕ
@@ -68,7 +69,8 @@ module _ (list : List ℕ) where
       reduceSteps′ : List Step
       reduceSteps′ = reduceSteps list
 
+  abbrev pub pairRows : List Row
+  pairRows = crowdedRow (cellsLeft cells (graphAfter (reduceSteps list))) ∷ []
+
   abbrev pub pairing : List ℕ → ℕ → Answer
-  pairing lent room =
-      answering lent list ((11, crowded (cellsLeft cells (graphAfter (reduceSteps list)))) ∷ [])
-      ((room, pairingFile) ∷ [])
+  pairing lent room = answering lent list pairRows ((room, pairingFile) ∷ [])

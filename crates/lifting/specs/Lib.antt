@@ -2,5 +2,4 @@
 pub mod Calls
 pub mod Ending
 pub mod Tail
-pub mod Solving
 pub mod Lifting

@@ -1,28 +1,14 @@
 -- What the layers of lift ask and promise. Inner contracts cite this; laws: proofs/Lifting.
-use mathlib.Core.List.{List, [], _∷_, _++_}
+use mathlib.Core.List.{List, [], _∷_}
 use Prim.Native.Nat.{ℕ}
-use Rattle.matching.specs.Pairs.{Points}
 use Rattle.matching.specs.Slip.{lift}
-use Rattle.cellfile.specs.Files.{cellsOf, pairsOf}
-use Rattle.checks.specs.Refusals.{Row, badPairing, noPairing}
+use Rattle.cellfile.specs.Files.{pairsOf}
+use Rattle.checks.specs.Calls.{formRow, holdRow}
 use Rattle.cellfile.specs.Answers.{Answer}
-use Rattle.starting.specs.Steps.{graphIn, slipRows}
 use Rattle.checks.specs.Answering.{Does}
-use Rattle.lifting.specs.Calls.{pairFile, bySteps, graphAfter}
+use Rattle.lifting.specs.Calls.{pairFile}
 use Rattle.partners.specs.Table.{FileThere}
 use Rattle.lifting.specs.Tail.{TrailThere, after, TailThere}
-
--- Refusals 9 and 10 of a pairing for what steps leave of the graph w of n cells; 7 to 10 of lift.
-abbrev pub formRow : ℕ → List ℕ → Row
-formRow n pairing = (9, badPairing n pairing)
-
-abbrev pub holdRow : Points → List ℕ → Row
-holdRow there pairing = (10, noPairing there (pairsOf pairing))
-
-abbrev pub liftRows : List ℕ → List ℕ → List ℕ → List Row
-liftRows list slip pairing =
-    slipRows list slip ++ (formRow (cellsOf list) pairing
-    ∷ holdRow (bySteps list slip (graphIn list) (graphAfter list)) pairing ∷ [])
 
 -- The pairing brought back, as a file.
 abbrev pub backFile : {n t : ℕ} {w2 : List ℕ} → TrailThere n t w2 → List ℕ → List ℕ

@@ -9,7 +9,7 @@ use Rattle.matching.specs.Pairs.{Points}
 use Rattle.matching.specs.Graph.{Graph, cellsLeft}
 use Rattle.matching.specs.Steps.{Step, name}
 use Rattle.matching.specs.Slip.{replay, left, lift}
-use Rattle.checks.specs.Refusals.{Row, crowded}
+use Rattle.checks.specs.Calls.{crowdedRow}
 use Rattle.cellfile.specs.Answers.{Answer}
 use Rattle.slots.specs.Slots.{Holds, graphOf}
 use Rattle.trail.specs.Trail.{trail, Small}
@@ -37,10 +37,6 @@ pub record TailThere (n e t : ℕ) (w1 w2 : List ℕ) : Type 0 where
   pub on : TrailThere n t w2
   pub holds : Holds e w1 w2
   pub left-is : graphOf e w1 ≡ after on
-
--- Refusal 11, by the number of cells that have pairs.
-abbrev pub crowdedRow : ℕ → Row
-crowdedRow k = (11, crowded k)
 
 -- The solution of what is left is brought back and written, or refusal 11 or 12 says no.
 abbrev pub Tails : (n e t : ℕ) (w1 w2 : List ℕ) (out out′ : List ℕ) → Answer → Type 0

@@ -11,14 +11,13 @@ use starting::Started;
 ghost use mathlib.Core.List.{_∷_, [], _++_};
 ghost use Rattle.matching.specs.Graph.{cellsLeft};
 ghost use Rattle.slots.specs.Slots.{graphOf};
-ghost use Rattle.checks.specs.Calls.{answered, callRows};
+ghost use Rattle.checks.specs.Calls.{answered, callRows, crowdedRow};
 ghost use Rattle.checks.specs.Answering.{Does, Enough};
-ghost use Rattle.lifting.specs.Calls.{pairFile, solveFile, liftFile};
+ghost use Rattle.lifting.specs.Calls.{pairFile, solveRows, solveFile, liftRows, liftFile};
 ghost use Rattle.matching.specs.Solve.{solution};
 ghost use Rattle.solving.specs.Left.{LeftThere};
-ghost use Rattle.lifting.specs.Tail.{TailThere, crowdedRow};
-ghost use Rattle.lifting.specs.Solving.{solveRows};
-ghost use Rattle.lifting.specs.Lifting.{liftRows, PairingThere, LiftsPairing, LiftsTail};
+ghost use Rattle.lifting.specs.Tail.{TailThere};
+ghost use Rattle.lifting.specs.Lifting.{PairingThere, LiftsPairing, LiftsTail};
 
 // Refusals 11 and 12, and the solution of the graph of n cells in e slots.
 fn solve_tail(n: usize, e: usize, w1: &mut [u64], w2: &mut [u64], out: &mut [u8]) -> Lengths

@@ -1,4 +1,5 @@
 // Inner: the end of a call, which writes its pairing. See specs/Ending.
+use cellfile::format;
 use cellfile::write;
 use checks::Lengths;
 use partners;
@@ -16,7 +17,7 @@ pub fn write_pairs(n: usize, w1: &[u64], r: usize, out: &mut [u8]) -> Lengths
     ensures { λ a. ⌜ Does []
         ((wordsFile n r (now (w1 .entry)), now (out .entry), now (out .exit)) ∷ []) (answered a) ⌝ }
 {
-    let size = 4 + 3 * r;
+    let size = format::HEADER_BYTES + format::PAIR_BYTES * r;
     if out.len() < size {
         return Lengths::Refused(12);
     }

@@ -7,13 +7,10 @@ use solving::Solved;
 use starting;
 use starting::Started;
 ghost use mathlib.Core.List.{_∷_, [], _++_};
-ghost use Rattle.matching.specs.Graph.{cellsLeft};
-ghost use Rattle.cellfile.specs.Files.{cellsOf};
-ghost use Rattle.starting.specs.Steps.{reduceSteps};
 ghost use Rattle.checks.specs.Calls.{answered, callRows};
 ghost use Rattle.checks.specs.Answering.{Does, Enough};
-ghost use Rattle.lifting.specs.Calls.{graphAfter, pairingFile};
-ghost use Rattle.lifting.specs.Tail.{TailThere, Tails, crowdedRow};
+ghost use Rattle.lifting.specs.Calls.{pairRows, pairingFile};
+ghost use Rattle.lifting.specs.Tail.{TailThere, Tails};
 
 // Refusal 11; else the solution of what is left in e slots is brought back through the trail of t words and written.
 fn pair_tail(
@@ -41,8 +38,7 @@ fn pair_tail(
 pub fn pair_in(few: bool, list: &[u8], w1: &mut [u64], w2: &mut [u64], out: &mut [u8]) -> Lengths
     requires { ⌜ Enough few (now w1) (now w2) ⌝ }
     ensures { λ r. ⌜ Does (callRows few (now (list .entry))
-        ++ crowdedRow (cellsLeft (cellsOf (now (list .entry)))
-        (graphAfter (now (list .entry)) (reduceSteps (now (list .entry))))) ∷ [])
+        ++ pairRows (now (list .entry)))
         ((pairingFile (now (list .entry)), now (out .entry), now (out .exit)) ∷ []) (answered r) ⌝ }
 {
     match starting::start_reduce(few, list, w1, w2) {

@@ -1,5 +1,6 @@
 // Inner functions of replay and reduce: see specs/Writing.
 use buffers::map::NAMES;
+use cellfile::format;
 use cellfile::write;
 use checks::Lengths;
 use running::lists;
@@ -24,7 +25,7 @@ fn write_left(n: usize, carried: u64, w1: &mut [u64], e: usize, short: &mut [u8]
         (answered r) ⌝ }
 {
     let r = lists::finish(w1, e);
-    let size = 12 + 8 * r;
+    let size = format::SHORT_START + format::SHORT_BYTES * r;
     if short.len() < size {
         return Lengths::Refused(12);
     }
@@ -50,8 +51,8 @@ fn write_both(
         (answered r) ⌝ }
 {
     let r = lists::finish(w1, e);
-    let slip_size = 4 + 2 * steps;
-    let short_size = 12 + 8 * r;
+    let slip_size = format::HEADER_BYTES + format::STEP_BYTES * steps;
+    let short_size = format::SHORT_START + format::SHORT_BYTES * r;
     if slip.len() < slip_size {
         return Lengths::Refused(12);
     }

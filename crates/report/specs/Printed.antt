@@ -8,12 +8,11 @@ use lib.Dec.{eqb, ltb}
 use lib.ListN.{length}
 use Rattle.matching.specs.Pairs.{Pair}
 use Rattle.matching.specs.Listed.{Entry, listed, points, shortList}
-use Rattle.matching.specs.Graph.{cellsLeft}
 use Rattle.matching.specs.Slip.{carried}
 use Rattle.cellfile.specs.Files.{cellsOf, pairsOf, entriesAll}
-use Rattle.checks.specs.Refusals.{first, lists, listRows, crowded}
+use Rattle.checks.specs.Refusals.{first, lists, listRows}
 use Rattle.starting.specs.Steps.{graphIn, reduceSteps}
-use Rattle.lifting.specs.Calls.{graphAfter, pairingFile}
+use Rattle.lifting.specs.Calls.{graphAfter, pairRows, pairingFile}
 
 -- The bytes of a text.
 abbrev pub ascii : String → List ℕ
@@ -63,8 +62,7 @@ module _ (list : List ℕ) where
   -- The first refusal of the program, 0 for none: 2 to 6, and 11.
   abbrev pub refusal : ℕ
   refusal =
-      first (listRows lists list
-      ++ (11, crowded (cellsLeft (cellsOf list) (graphAfter list (reduceSteps list)))) ∷ [])
+      first (listRows lists list ++ pairRows list)
 
   -- 'A refusal prints only the line "refused" with its number.'
   abbrev pub printed : List ℕ

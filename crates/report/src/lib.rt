@@ -3,6 +3,7 @@ mod pairs;
 mod text;
 
 use cellfile::decode;
+use cellfile::format;
 use checks::Lengths;
 ghost use mathlib.Core.Path.{_≡_};
 ghost use Prim.Native.Nat.{_≤_};
@@ -25,10 +26,10 @@ fn print_made(
     ensures { λ r. ⌜ Made (made (now (list .entry))) (now (text .exit)) r ⌝ }
 {
     let m = decode::header_at(list).m;
-    let k = (pairing.len() - 4) / 3;
-    let steps = (slip_length - 4) / 2;
-    let entries = (short.len() - 12) / 8;
-    let carried = decode::number_at(&short[4..], 8);
+    let k = (pairing.len() - format::HEADER_BYTES) / format::PAIR_BYTES;
+    let steps = (slip_length - format::HEADER_BYTES) / format::STEP_BYTES;
+    let entries = (short.len() - format::SHORT_START) / format::SHORT_BYTES;
+    let carried = decode::number_at(&short[format::HEADER_BYTES..], format::CARRIED_BYTES);
     let steps_end = text::line(text, 0, b"steps", steps as u64);
     let carried_end = text::line(text, steps_end, b"carried", carried);
     let short_end = text::line(text, carried_end, b"short", entries as u64);

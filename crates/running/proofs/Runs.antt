@@ -45,7 +45,7 @@ use Rattle.taking.specs.Applying.{StepThere, StepTaken}
 use Rattle.taking.specs.declared.Taken.{Taken}
 use Rattle.taking.proofs.Applied.{found-step}
 use Rattle.running.specs.Course.{course}
-use Rattle.running.specs.Running.{namesAt, namesFrom, nextStep, fuel, courseFrom, Names, RunThere, RunDone}
+use Rattle.running.specs.Running.{namesAt, namesFrom, nextStep, fuel, courseFrom, Names, Asked, RunDone}
 use Rattle.running.specs.Running.{Coursing, FoundThere}
 use Rattle.running.specs.declared.Name.{Name}
 use Rattle.running.specs.declared.Place.{Place}
@@ -70,22 +70,15 @@ name-word (chain u v z inner) q l = (omega arith, omega arith, omega arith)
 
 -- ---- what holds between the steps
 
-pub run-start : {n e m : ℕ} {slip w1 w2 : List ℕ} {more : ℕ} → RunThere n e m slip w1 w2 → more ≤ 1024
+pub run-start : {n e m : ℕ} {slip w1 w2 : List ℕ} {more : ℕ} → Holds e w1 w2 → Asked n (graphOf e w1) m more slip
     → Coursing n (graphOf e w1) m more slip
     (record { slots = e; trail = 0; carried = 0; steps = 0; low = 0; rings = 0 }) w1 w2
-run-start {n} {e} {m} {slip} {w1} {w2} {more} h few = record {
-  asked = record {
-    cells = h .cells;
-    graph = h .graph;
-    small = h .small;
-    count = h .count;
-    named = h .named;
-    few = few;
-  };
+run-start {n} {e} {m} {slip} {w1} {w2} {more} h a = record {
+  asked = a;
   taken = [];
   allowed = refl;
   after = record {
-    holds = h .holds;
+    holds = h;
     graph = refl;
     carries = refl;
     trail-length = refl;

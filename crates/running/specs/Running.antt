@@ -52,14 +52,14 @@ pub record Spare (m more k on-trail r : ℕ) : Type 0 where
   pub trail : on-trail + r ≤ trailRoom
   pub slip : k < m → r ≡ 0
 
--- What the loop asks: e slots hold a graph of n cells.
-pub record RunThere (n e m : ℕ) (slip w1 w2 : List ℕ) : Type 0 where
-  pub holds : Holds e w1 w2
+-- What is asked for: the first m steps of the slip, then at most `more` of reduce, on the points w of n cells.
+pub record Asked (n : ℕ) (w : Points) (m more : ℕ) (slip : List ℕ) : Type 0 where
   pub cells : n ≤ 1024
-  pub graph : Graph n (graphOf e w1)
-  pub small : Small n (graphOf e w1)
+  pub graph : Graph n w
+  pub small : Small n w
   pub count : m < 8192
   pub named : (k : ℕ) → k < m → RecordThere slipLayout slip k
+  pub few : more ≤ 1024
 
 -- After the steps `taken`: the graph left, what was carried, the trail, and the steps as words of a slip.
 pub record After (w : Points) (taken : List Step) (slots on-trail points steps : ℕ) (w1′ w2′ : List ℕ) : Type 0 where
@@ -92,15 +92,6 @@ fuel m more k = m + more - k - (m - k)
 
 abbrev pub courseFrom : ℕ → ℕ → ℕ → List ℕ → ℕ → Points → Option (List Step)
 courseFrom n m more slip k w = course n w (namesFrom m slip k) (fuel m more k)
-
--- What is asked for: the first m steps of the slip, then at most `more` of reduce, on the points w of n cells.
-pub record Asked (n : ℕ) (w : Points) (m more : ℕ) (slip : List ℕ) : Type 0 where
-  pub cells : n ≤ 1024
-  pub graph : Graph n w
-  pub small : Small n w
-  pub count : m < 8192
-  pub named : (k : ℕ) → k < m → RecordThere slipLayout slip k
-  pub few : more ≤ 1024
 
 -- Where the loop stands: allowed steps were taken, the rest of the course goes on from what they left, no cell below
 -- `low` is a leaf, and none below `rings` is named by a ring step.

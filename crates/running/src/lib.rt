@@ -24,7 +24,7 @@ ghost use Rattle.matching.specs.Pairs.{Points};
 ghost use Rattle.matching.specs.Graph.{Graph};
 ghost use Rattle.slots.specs.Slots.{Holds, graphOf};
 ghost use Rattle.finding.specs.Finding.{told, Finds, Quiet, RingQuiet};
-ghost use Rattle.running.specs.Running.{RunThere, Runs, namesAt, namesFrom, nextStep, Names, Spare};
+ghost use Rattle.running.specs.Running.{Asked, Runs, namesAt, namesFrom, nextStep, Names, Spare};
 ghost use Rattle.running.specs.Running.{Coursing, FoundThere};
 
 // Refusal 8, or what stands in the buffers after the steps: the slots in use, the words on the trail, the points
@@ -175,7 +175,7 @@ pub fn run(
     w2: &mut [u64],
     e: usize,
 ) -> Ran
-    requires { ⌜ RunThere n e m (now slip) (now w1) (now w2) × (more ≤ 1024) ⌝ }
+    requires { ⌜ (Holds e (now w1) (now w2)) × Asked n (graphOf e (now w1)) m more (now slip) ⌝ }
     ensures { λ r. ⌜ Runs n (graphOf e (now (w1 .entry))) (namesAt m (now (slip .entry))) more
         (now (w1 .entry)) (now (w2 .entry)) (now (w1 .exit)) (now (w2 .exit)) r ⌝ }
 {

@@ -3,7 +3,7 @@ use crate::words;
 use buffers::map;
 ghost use mathlib.Core.Path.{_≡_};
 ghost use mathlib.Core.Bool.{true};
-ghost use Prim.Native.Nat.{_+_, _-_, _<_};
+ghost use Prim.Native.Nat.{_+_, _-_, _/_, _%_, _<_};
 ghost use lib.ListN.{length};
 ghost use Rattle.matching.specs.Graph.{partners};
 ghost use Rattle.matching.specs.Pairs.{touches};
@@ -21,7 +21,17 @@ pub fn degree(w1: &[u64], w2: &[u64], e: usize, c: usize) -> u64
     requires { ⌜ (Holds e (now w1) (now w2)) × (c < 1024) ⌝ }
     ensures { λ r. ⌜ r ≡ length (partners 1024 (graphOf e (now (w1 .entry))) c) ⌝ }
 {
-    w2[map::SUMS + c] / 70368744177664
+    w2[map::SUMS + c] / words::KEY_ONE
+}
+
+// The cell and the slot of a key.
+fn other_in(k: u64) -> Other
+    ensures { λ r. ⌜ (r .partner ≡ k / 16777216 % 4194304) × (r .slot ≡ k % 16777216) ⌝ }
+{
+    Other {
+        partner: (k / words::KEY_PARTNER % words::PARTNERS) as usize,
+        slot: (k % words::KEY_PARTNER) as usize,
+    }
 }
 
 // The only partner of a cell of degree one, with its slot.
@@ -29,11 +39,7 @@ pub fn only(w1: &[u64], w2: &[u64], e: usize, c: usize) -> Other
     requires { ⌜ (Holds e (now w1) (now w2)) × (c < 1024) × (length (partners 1024 (graphOf e (now w1)) c) ≡ 1) ⌝ }
     ensures { λ r. ⌜ Only e (now (w1 .entry)) c r ⌝ }
 {
-    let k = w2[map::SUMS + c];
-    Other {
-        partner: (k / 16777216 % 4194304) as usize,
-        slot: (k % 16777216) as usize,
-    }
+    other_in(w2[map::SUMS + c])
 }
 
 // The other pair of a cell of degree two, of which slot i joins it to prev.
@@ -43,11 +49,7 @@ pub fn step_on(w1: &[u64], w2: &[u64], e: usize, c: usize, prev: usize, i: usize
     ensures { λ r. ⌜ Next e (now (w1 .entry)) c prev r ⌝ }
 {
     let t = w2[map::SUMS + c];
-    let k = t - words::key_of(prev, i);
-    Other {
-        partner: (k / 16777216 % 4194304) as usize,
-        slot: (k % 16777216) as usize,
-    }
+    other_in(t - words::key_of(prev, i))
 }
 
 // The last slot of c, its number + 1, or 0 where there is none.

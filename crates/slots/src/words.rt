@@ -6,13 +6,19 @@ ghost use lib.ListN.{length, getD, set};
 ghost use Rattle.buffers.specs.Map.{atCells, atSums, atLasts};
 ghost use Rattle.slots.specs.Slots.{key, linkOf, Added};
 
-const KEY_ONE: u64 = 70368744177664;
+// A key in the sum of a cell: one, above the partner, above the slot.
+pub const KEY_ONE: u64 = 70368744177664;
 
-const KEY_PARTNER: u64 = 16777216;
+pub const KEY_PARTNER: u64 = 16777216;
 
+pub const PARTNERS: u64 = KEY_ONE / KEY_PARTNER;
+
+// The links of a slot above its cells.
 const LOW_LINK: u64 = 1048576;
 
 const HIGH_LINK: u64 = 8589934592;
+
+const LINKS: u64 = HIGH_LINK / LOW_LINK;
 
 pub fn key_of(partner: usize, slot: usize) -> u64
     requires { ⌜ (partner < 1024) × (slot < 4096) ⌝ }
@@ -36,7 +42,7 @@ pub fn link(w1: &[u64], i: usize, c: usize) -> usize
 {
     let x = w1[map::CELL_WORDS + i];
     if (x % map::CELL_FIELD) as usize == c {
-        return (x / LOW_LINK % 8192) as usize;
+        return (x / LOW_LINK % LINKS) as usize;
     }
     (x / HIGH_LINK) as usize
 }

@@ -38,7 +38,7 @@ use Rattle.checks.proofs.Accepted.{list-fits, call-accepted, accepted-list}
 use Rattle.slots.specs.Slots.{graphOf}
 use Rattle.starting.specs.Steps.{graphIn}
 use Rattle.running.specs.Course.{course}
-use Rattle.running.specs.Running.{RunThere, After}
+use Rattle.running.specs.Running.{Asked, After}
 use Rattle.starting.specs.Starting.{ListThere, Loaded}
 use Rattle.running.specs.Pairs.{PairsLeft}
 use Rattle.running.proofs.Listing.{holds-pairs}
@@ -111,15 +111,15 @@ module _ (list : List ℕ) (h : first (listRows lists list) ≡ 0) where
         total-fits 20 (inView list) (view-small list) list-few,
       )
 
-  pub run-there : {n e m : ℕ} {slip w1 w2 : List ℕ} → n ≡ cellsOf list → Loaded list e w1 w2 → m < 8192
-      → ((k : ℕ) → k < m → RecordThere slipLayout slip k) → RunThere n e m slip w1 w2
-  run-there en l c r = record {
-    holds = l .holds;
+  pub run-asked : {n e m more : ℕ} {slip w1 w2 : List ℕ} → n ≡ cellsOf list → Loaded list e w1 w2 → m < 8192
+      → ((k : ℕ) → k < m → RecordThere slipLayout slip k) → more ≤ 1024 → Asked n (graphOf e w1) m more slip
+  run-asked en l c r f = record {
     cells = omega (arith, en, accepted-list list h .0);
     graph = rw (en, l .graph) list-graph;
     small = rw (en, l .graph) left-small;
     count = c;
     named = r;
+    few = f;
   }
 
   module _ (rs : List (Rule × ℕ)) (ss : List Step) (allowed : replay (cellsOf list) (graphIn list) rs ≡ some ss) where

@@ -17,11 +17,11 @@ use Rattle.matching.proofs.Pairing.{is-pairing}
 use Rattle.cellfile.specs.Files.{cellsOf, countOf, entriesAll, pairsOf}
 use Rattle.cellfile.specs.Answers.{Answer, answer}
 use Rattle.checks.specs.Refusals.{Row, first, fewWords, lists, listRows, badPairing, noPairing}
-use Rattle.checks.specs.Calls.{callRows}
+use Rattle.checks.specs.Calls.{callRows, formRow}
 use Rattle.checks.proofs.Rows.{first-none}
 use Rattle.checks.proofs.Layers.{answer-accepted, layer-refused, layer-passed, call-passes, call-sound}
 use Rattle.checks.proofs.Merge.{joinAll, merge-is, entries-ascend, pairs-ascend}
-use Rattle.weighing.specs.Weigh.{weighed, formRow, pairRow, weight, weighing}
+use Rattle.weighing.specs.Weigh.{weighed, pairRow, weight, weighing}
 use Rattle.weighing.specs.Merging.{merged, asWeighed}
 use Rattle.weighing.specs.declared.Weighed.{Weighed}
 
@@ -56,21 +56,21 @@ module _ (list pairing : List ℕ) where
   -- ---- refusal 9, from the answer of the pairing's check
 
   abbrev rows : List Row
-  rows = formRow list pairing ∷ pairRow list pairing ∷ []
+  rows = formRow (cellsOf list) pairing ∷ pairRow list pairing ∷ []
 
   module _ {n k : ℕ} (en : n ≡ cellsOf list) where
     pub pairing-refused : (k, []) ≡ answer (first ((9, badPairing n pairing) ∷ [])) (n ∷ countOf pairing ∷ [])
         → (k, []) ≡ answer (first rows) (weight list pairing)
     pairing-refused e =
-        layer-refused (formRow list pairing ∷ []) (pairRow list pairing ∷ []) (weight list pairing) k
+        layer-refused (formRow (cellsOf list) pairing ∷ []) (pairRow list pairing ∷ []) (weight list pairing) k
         (cellsOf list) (countOf pairing ∷ []) (rw en at e)
 
     pub pairing-accepted : {i : ℕ}
         → (0, i ∷ k ∷ []) ≡ answer (first ((9, badPairing n pairing) ∷ [])) (n ∷ countOf pairing ∷ [])
         → (badPairing (cellsOf list) pairing ≡ false) × (k ≡ countOf pairing)
     pairing-accepted {i} e =
-        let a = answer-accepted (first (formRow list pairing ∷ [])) (i ∷ k ∷ []) _ (rw en at e) in
-        (first-none (formRow list pairing ∷ []) (omega arith, tt) (a .0) .0, ap (λ vs. getD vs 1 0) (a .1))
+        let a = answer-accepted (first (formRow (cellsOf list) pairing ∷ [])) (i ∷ k ∷ []) _ (rw en at e) in
+        (first-none (formRow (cellsOf list) pairing ∷ []) (omega arith, tt) (a .0) .0, ap (λ vs. getD vs 1 0) (a .1))
 
   pub pairing-passed : {a : Answer} → badPairing (cellsOf list) pairing ≡ false
       → a ≡ answer (first (pairRow list pairing ∷ [])) (weight list pairing)

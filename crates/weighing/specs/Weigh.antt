@@ -3,8 +3,8 @@ use Prim.Native.Nat.{ℕ}
 use mathlib.Core.List.{List, [], _∷_, _++_}
 use Rattle.matching.specs.Listed.{joined, points}
 use Rattle.cellfile.specs.Files.{cellsOf, entriesAll, pairsOf}
-use Rattle.checks.specs.Refusals.{Row, first, fewWords, badPairing, noPairing}
-use Rattle.checks.specs.Calls.{callRows}
+use Rattle.checks.specs.Refusals.{Row, first, fewWords}
+use Rattle.checks.specs.Calls.{callRows, formRow, holdRow}
 use Rattle.cellfile.specs.Answers.{Answer, answer}
 use Rattle.weighing.specs.declared.Weighed.{Weighed}
 use Rattle.weighing.specs.declared.Weighed.the-variants as weighs
@@ -14,12 +14,9 @@ abbrev pub weighed : Weighed → Answer
 weighed (weighs.Refused k) = (k, [])
 weighed (weighs.Points p) = (0, p ∷ [])
 
--- Refusals 9 and 10 of a pairing. It is for all entries of the list, those of zero points too.
-abbrev pub formRow : List ℕ → List ℕ → Row
-formRow list pairing = (9, badPairing (cellsOf list) pairing)
-
+-- Refusal 10. The pairing is for all entries of the list, those of zero points too.
 abbrev pub pairRow : List ℕ → List ℕ → Row
-pairRow list pairing = (10, noPairing (joined (entriesAll list)) (pairsOf pairing))
+pairRow list pairing = holdRow (joined (entriesAll list)) pairing
 
 -- The pairing's points, as the one value of the answer.
 abbrev pub weight : List ℕ → List ℕ → List ℕ
@@ -28,5 +25,5 @@ weight list pairing = points (entriesAll list) (pairsOf pairing) ∷ []
 -- What weighing answers for the list, the pairing and the lengths of the work buffers lent.
 abbrev pub weighing : List ℕ → List ℕ → List ℕ → Answer
 weighing list pairing lent =
-    answer (first (callRows (fewWords lent) list ++ formRow list pairing ∷ pairRow list pairing ∷ []))
+    answer (first (callRows (fewWords lent) list ++ formRow (cellsOf list) pairing ∷ pairRow list pairing ∷ []))
     (weight list pairing)

@@ -12,9 +12,9 @@ ghost use lib.ListN.{length};
 ghost use Rattle.cellfile.specs.Files.{listLayout, pairing as pairingLayout, cellsOf, countOf, entriesAll, pairsOf};
 ghost use Rattle.cellfile.specs.Answers.{answer};
 ghost use Rattle.checks.specs.Refusals.{first, lists, listRows, badPairing};
-ghost use Rattle.checks.specs.Calls.{callRows};
+ghost use Rattle.checks.specs.Calls.{callRows, formRow};
 ghost use Rattle.checks.specs.Loops.{WholeFile};
-ghost use Rattle.weighing.specs.Weigh.{weighed, formRow, pairRow, weight};
+ghost use Rattle.weighing.specs.Weigh.{weighed, pairRow, weight};
 ghost use Rattle.weighing.specs.Merging.{merged};
 
 // The points of the pairs, or 10 where one is not an entry. Both files ascend, so each is passed once.
@@ -59,7 +59,7 @@ fn weigh_list(list: &[u8], n: usize, m: usize, pairing: &[u8], w2: &mut [u64]) -
     requires { ⌜ (first (listRows lists (now list)) ≡ 0) × (n ≡ cellsOf (now list)) × (m ≡ countOf (now list))
         × (8192 ≤ length (now w2)) ⌝ }
     ensures { λ r. ⌜ weighed r
-        ≡ answer (first (formRow (now (list .entry)) (now (pairing .entry))
+        ≡ answer (first (formRow (cellsOf (now (list .entry))) (now (pairing .entry))
         ∷ pairRow (now (list .entry)) (now (pairing .entry)) ∷ []))
         (weight (now (list .entry)) (now (pairing .entry))) ⌝ }
 {
@@ -73,7 +73,7 @@ fn weigh_list(list: &[u8], n: usize, m: usize, pairing: &[u8], w2: &mut [u64]) -
 pub fn weigh_in(few: bool, list: &[u8], pairing: &[u8], w2: &mut [u64]) -> Weighed
     requires { ⌜ (few ≡ false → 8192 ≤ length (now w2)) ⌝ }
     ensures { λ r. ⌜ weighed r ≡ answer (first (callRows few (now (list .entry))
-        ++ formRow (now (list .entry)) (now (pairing .entry))
+        ++ formRow (cellsOf (now (list .entry))) (now (pairing .entry))
         ∷ pairRow (now (list .entry)) (now (pairing .entry)) ∷ []))
         (weight (now (list .entry)) (now (pairing .entry))) ⌝ }
 {

@@ -1,6 +1,6 @@
 -- `lift` answers what `lift_in` answers, and clears both buffers.
 use mathlib.Core.Path.{ap, _∙_}
-use Rattle.lifting.specs.Lifting.{liftRows}
+use Rattle.lifting.specs.Calls.{liftRows}
 use Rattle.buffers.specs.Buffers.{lent, zeros}
 use Rattle.checks.proofs.Answering.{enough-words, framed}
 use borrow.Author.Needs.{needs}

@@ -1,11 +1,7 @@
 -- `pair` answers what `pair_in` answers, and clears both buffers.
 use mathlib.Core.Path.{ap, _∙_}
 use mathlib.Core.List.{[], _∷_}
-use Rattle.matching.specs.Graph.{cellsLeft}
-use Rattle.cellfile.specs.Files.{cellsOf}
-use Rattle.starting.specs.Steps.{reduceSteps}
-use Rattle.lifting.specs.Calls.{graphAfter}
-use Rattle.lifting.specs.Tail.{crowdedRow}
+use Rattle.lifting.specs.Calls.{pairRows}
 use Rattle.buffers.specs.Buffers.{lent, zeros}
 use Rattle.checks.proofs.Answering.{enough-words, framed}
 use borrow.Author.Needs.{needs}
@@ -26,8 +22,7 @@ returns c =
     let few = i .before .before .before .before in
     let a = few .before .before .before .before .before .before .before .args in
     let f =
-    framed (lent (a .work-a .now) (a .work-b .now)) (a .list .now) (crowdedRow (cellsLeft (cellsOf (a .list .now))
-    (graphAfter (a .list .now) (reduceSteps (a .list .now)))) ∷ []) (few .few-words .ensures)
+    framed (lent (a .work-a .now) (a .work-b .now)) (a .list .now) (pairRows (a .list .now)) (few .few-words .ensures)
     (i .pair-in .ensures) in (
       f .0,
       (

@@ -1,6 +1,6 @@
 -- `solve` answers what `solve_in` answers, and clears both buffers.
 use mathlib.Core.Path.{ap, _∙_}
-use Rattle.lifting.specs.Solving.{solveRows}
+use Rattle.lifting.specs.Calls.{solveRows}
 use Rattle.buffers.specs.Buffers.{lent, zeros}
 use Rattle.checks.proofs.Answering.{enough-words, framed}
 use borrow.Author.Needs.{needs}

@@ -46,7 +46,7 @@ loop-holds c =
     (refl, refl, run-start (p .0) (p .1))
 
 add-if1 : tie.Need-add-if1 Inv-loop μ-loop
-add-if1 c = let p = began c .pre in omega (arith, p .0 .count, p .1)
+add-if1 c = let p = began c .pre .1 in omega (arith, p .count, p .few)
 
 next-requires : tie.Need-next-requires Inv-loop μ-loop
 next-requires c κs =

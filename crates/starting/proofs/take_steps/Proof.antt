@@ -1,7 +1,7 @@
 -- `take_steps` hands on what the loop answers.
 use mathlib.Core.Path.{subst}
 use Rattle.running.specs.Running.{Runs}
-use Rattle.starting.proofs.OnList.{run-there}
+use Rattle.starting.proofs.OnList.{run-asked}
 use Rattle.starting.proofs.Starts.{takes-refused, takes-done}
 use borrow.Author.Needs.{needs}
 use Rattle.starting.proofs.take_steps.Statement.{statement}
@@ -13,11 +13,9 @@ load-list-requires c κs = search needs
 run-requires : tie.Need-run-requires
 run-requires c κs =
     let p =
-    c .before .before .before .before .before .before .before .before .before .before .before .before .before .pre in (
-      run-there _ (p .0 .accepted) (p .1) (c .before .before .before .before .before .before .load-list .ensures) (p .2)
-          (p .3),
-      p .4,
-    )
+    c .before .before .before .before .before .before .before .before .before .before .before .before .before .pre in
+    let l = c .before .before .before .before .before .before .load-list .ensures in
+    (l .holds, run-asked _ (p .0 .accepted) (p .1) l (p .2) (p .3) (p .4))
 
 enum-known-r : tie.Need-enum-known-r
 enum-known-r c = search needs

@@ -4,7 +4,7 @@ use native.Mathlib.Omega.{arith}
 use lib.ListN.{length}
 use borrow.Author.Needs.{needs}
 use Rattle.cellfile.proofs.Lists.{entry-is, entry-place}
-use Rattle.cellfile.proofs.Walk.{part-has}
+use Rattle.cellfile.proofs.Outputs.{part-room}
 use Rattle.cellfile.proofs.decode.list_entry.Statement.{statement}
 use Rattle.cellfile.proofs.decode.list_entry.Tie as tie
 
@@ -31,7 +31,7 @@ part-entry-at-end c = search needs
 entry-at-requires : tie.Need-entry-at-requires
 entry-at-requires c κs =
     let s = c .before .before in
-    let r = s .pre .shaped in (r .least, r .most, part-has _ _ (s .args .list .now) (fits s .0))
+    let r = s .pre .shaped in (r .least, r .most, part-room (s .args .list .now) _ _ (fits s .0))
 
 returns : tie.Need-returns
 returns c =

@@ -1,15 +1,11 @@
 -- `pair_in` answers what the start refuses, or what `pair_tail` answers.
 use mathlib.Core.Path.{refl, subst}
 use mathlib.Core.List.{[], _∷_}
-use Rattle.matching.specs.Graph.{cellsLeft}
-use Rattle.cellfile.specs.Files.{cellsOf}
 use Rattle.checks.specs.Calls.{callRows}
-use Rattle.starting.specs.Steps.{reduceSteps}
 use Rattle.starting.specs.Starting.{Starts}
 use Rattle.checks.proofs.Answering.{refused}
 use Rattle.starting.proofs.Starts.{started, not-started}
-use Rattle.lifting.specs.Calls.{graphAfter}
-use Rattle.lifting.specs.Tail.{crowdedRow}
+use Rattle.lifting.specs.Calls.{pairRows}
 use Rattle.lifting.proofs.Tailing.{reduce-tail, pair-passed}
 use borrow.Author.Needs.{needs}
 use Rattle.lifting.proofs.pairing.pair_in.Statement.{statement}
@@ -31,8 +27,7 @@ returns c =
     let s = c .before .before .before .before .before .before .before in
     let a = s .before .before .before .before .before .before .before .args in
     let d = subst (Starts _ _ _ _ _) (c .before .k .given .1) (s .start-reduce .ensures .0) in
-    refused (callRows (a .few) (a .list .now))
-    (crowdedRow (cellsLeft (cellsOf (a .list .now)) (graphAfter (a .list .now) (reduceSteps (a .list .now)))) ∷ []) 0 []
+    refused (callRows (a .few) (a .list .now)) (pairRows (a .list .now)) 0 []
     (not-started _ _ _ _ _ _ d) (refl, tt)
 
 returns-2 : tie.Need-returns-2

@@ -1,0 +1,26 @@
+// Inner: the files in numbers, as specs/Files lays them out.
+
+// The kinds.
+pub const STORE_LIST: u64 = 1;
+
+pub const SHORT_LIST: u64 = 2;
+
+pub const SLIP: u64 = 3;
+
+pub const PAIRING: u64 = 4;
+
+// The bytes of the header, and of a record of a store list, a short list, a slip and a pairing.
+pub const HEADER_BYTES: usize = 4;
+
+pub const ENTRY_BYTES: usize = 5;
+
+pub const SHORT_BYTES: usize = 8;
+
+pub const STEP_BYTES: usize = 2;
+
+pub const PAIR_BYTES: usize = 3;
+
+// The bytes of the carried points, and where the entries of a short list start behind them.
+pub const CARRIED_BYTES: usize = 8;
+
+pub const SHORT_START: usize = HEADER_BYTES + CARRIED_BYTES;
