@@ -27,7 +27,7 @@ struct Output {
 struct Calls {
     std::vector<uint64_t> work_a = std::vector<uint64_t>(WORK_WORDS);
     std::vector<uint64_t> work_b = std::vector<uint64_t>(WORK_WORDS);
-    Output slip, short_list, solved, lifted, pairing;
+    Output slip, short_list, solved, lifted, pairing, origins;
 
     uint32_t reduce(const Bytes &list) {
         return cells_reduce(list.data(), list.size(), work_a.data(), work_a.size(), work_b.data(), work_b.size(),
@@ -45,12 +45,14 @@ struct Calls {
     uint32_t lift(const Bytes &list) {
         return cells_lift(list.data(), list.size(), slip.room.data(), slip.length, solved.room.data(), solved.length,
                           work_a.data(), work_a.size(), work_b.data(), work_b.size(), lifted.room.data(),
-                          lifted.room.size(), &lifted.length);
+                          lifted.room.size(), origins.room.data(), origins.room.size(), &lifted.length,
+                          &origins.length);
     }
 
     uint32_t pair(const Bytes &list) {
         return cells_pair(list.data(), list.size(), work_a.data(), work_a.size(), work_b.data(), work_b.size(),
-                          pairing.room.data(), pairing.room.size(), &pairing.length);
+                          pairing.room.data(), pairing.room.size(), origins.room.data(), origins.room.size(),
+                          &pairing.length, &origins.length);
     }
 
     // The points of a pairing of the list that a call wrote.

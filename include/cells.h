@@ -56,24 +56,31 @@ uint32_t cells_solve(const uint8_t *list, size_t list_len,
                      uint64_t *pairing_len);
 
 /* Lifts a pairing (kind 4) of what a slip leaves to the store list: writes a pairing of the list, of *lifted_len
- * bytes. Refusals: 1, 2 to 6, 7, 8 (the slip), 9 (the pairing's form), 10 (a cell twice, or a pair that the slip
- * does not leave), 12 (the output is shorter than its file). */
+ * bytes, and its origin list (kind 5), of *origins_len bytes: the same pairs in the same order, each with the step of
+ * the slip whose undoing last put it in, counted from 1, and that step's rule; both are 0 for a pair of the given
+ * pairing that was never replaced. Refusals: 1, 2 to 6, 7, 8 (the slip), 9 (the pairing's form), 10 (a cell twice, or
+ * a pair that the slip does not leave), 12 (an output is shorter than its file: neither is written). */
 uint32_t cells_lift(const uint8_t *list, size_t list_len,
                     const uint8_t *slip, size_t slip_len,
                     const uint8_t *pairing, size_t pairing_len,
                     uint64_t *work_a, size_t work_a_len,
                     uint64_t *work_b, size_t work_b_len,
                     uint8_t *lifted, size_t lifted_room,
-                    uint64_t *lifted_len);
+                    uint8_t *origins, size_t origins_room,
+                    uint64_t *lifted_len,
+                    uint64_t *origins_len);
 
 /* Pairs a store list: reduces it, solves what is left and lifts that; writes a heaviest pairing of the list, of
- * *pairing_len bytes. Refusals: 1, 2 to 6, 11 (more than 12 cells have pairs left), 12 (the output is shorter than
- * its file). */
+ * *pairing_len bytes, and its origin list (kind 5), of *origins_len bytes, as cells_lift does with the slip of
+ * cells_reduce. Refusals: 1, 2 to 6, 11 (more than 12 cells have pairs left), 12 (an output is shorter than its file:
+ * neither is written). */
 uint32_t cells_pair(const uint8_t *list, size_t list_len,
                     uint64_t *work_a, size_t work_a_len,
                     uint64_t *work_b, size_t work_b_len,
                     uint8_t *pairing, size_t pairing_room,
-                    uint64_t *pairing_len);
+                    uint8_t *origins, size_t origins_room,
+                    uint64_t *pairing_len,
+                    uint64_t *origins_len);
 
 /* Serves the entry at a place of a store list, the first being at 0: returns 1, and *a, *b and *points are the
  * entry's cells and points. Returns 0 and changes none of the three where the list is refused (2 to 6) or has no

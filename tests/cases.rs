@@ -1,8 +1,8 @@
 //! What is special about a call that writes files, by name, so that a
 //! comparison which never met it fails.
 
-use crate::graph::{heaviest_of_path, heaviest_of_ring, Graph, Step};
-use crate::lifting::{self, Held, Taken};
+use crate::graph::{heaviest_of_path, heaviest_of_ring, Graph, Step, CHAIN, LEAF, RING};
+use crate::lifting::{self, Held, Lifted, Origin, Taken};
 use crate::reference::{Answer, Input, Pair, MOST_CELLS, MOST_SOLVED, WORK_WORDS};
 
 /// Cases of every call: of the steps taken, of the list, of what is lent.
@@ -50,10 +50,10 @@ pub const OF_SLIP: [&str; 6] = [
 /// Cases of the calls that write one file.
 pub const OF_ONE_FILE: [&str; 1] = ["file too long by one byte"];
 
-/// Cases of reduce, which writes two.
+/// Cases of the calls that write two: reduce, lift and pair.
 pub const OF_TWO_FILES: [&str; 3] = [
-    "slip alone too long by one byte",
-    "short list alone too long by one byte",
+    "first file alone too long by one byte",
+    "second file alone too long by one byte",
     "both files too long",
 ];
 
@@ -102,6 +102,21 @@ pub const OF_LIFT: [&str; 13] = [
     "a pair of no entry",
     "a pair of an entry of zero points",
     "a pair of an entry that has gone",
+];
+
+/// Cases of the calls that write an origin list: of a pair that the undoing of a
+/// step takes out, puts in again or keeps, then of the whole list.
+pub const OF_ORIGINS: [&str; 10] = [
+    "pair of the short pairing replaced",
+    "pair from a step replaced",
+    "pair of the short pairing put in for itself",
+    "pair from a step put in for itself",
+    "direct pair of the short pairing kept",
+    "direct pair from a later step kept",
+    "pairs from short pairing and steps",
+    "all from the short pairing, after steps",
+    "pairs from leaf, ring and chain",
+    "pair from step 300 or a later one",
 ];
 
 /// The cases that hold of a call, with what it was lent and its answer.
@@ -262,8 +277,8 @@ fn of_short_room(lengths: &[usize], room: &[usize]) -> Vec<&'static str> {
     let mut met = Vec::new();
     match (lengths.len(), missing(0), missing(lengths.len() - 1)) {
         (1, 1, _) => met.extend(OF_ONE_FILE),
-        (2, 1, 0) => met.push("slip alone too long by one byte"),
-        (2, 0, 1) => met.push("short list alone too long by one byte"),
+        (2, 1, 0) => met.push("first file alone too long by one byte"),
+        (2, 0, 1) => met.push("second file alone too long by one byte"),
         (2, 1.., 1..) => met.push("both files too long"),
         _ => {}
     }
@@ -378,15 +393,17 @@ fn of_bad_pair(input: &Input) -> Vec<&'static str> {
 }
 
 // Cases of the way back from a pairing, and of what it makes of it.
-fn of_way_back(taken: &[Taken], mut held: Held) -> Vec<&'static str> {
+fn of_way_back(taken: &[Taken], held: Held) -> Vec<&'static str> {
+    let mut lifted = Lifted::new(held);
     let mut met = Vec::new();
-    for step in taken.iter().rev() {
-        met.extend(of_undo(step, &held));
-        step.undo(&mut held);
+    for (place, step) in taken.iter().enumerate().rev() {
+        met.extend(of_undo(step, &lifted.held));
+        met.extend(of_pairs_undone(place, step, &mut lifted));
     }
-    if held.pairs().len() >= 300 {
+    if lifted.held.pairs().len() >= 300 {
         met.push("300 pairs or more written");
     }
+    met.extend(of_origins(&lifted, !taken.is_empty()));
     met
 }
 
@@ -481,4 +498,59 @@ fn several_best_of_ring(row: &lifting::Row) -> bool {
         points.rotate_left(1);
     }
     false
+}
+
+// Origins
+
+// Undoes the step at a place of the slip; cases of the pairs that a ring or chain
+// made of its row, looked at before and after.
+fn of_pairs_undone(place: usize, taken: &Taken, lifted: &mut Lifted) -> Vec<&'static str> {
+    let ([u, v], z) = (taken.ends(), taken.step.named().cell);
+    let made = match &taken.step {
+        Step::Leaf { .. } => Vec::new(),
+        Step::Ring { .. } => vec![pair(u, z)],
+        Step::Chain { .. } => vec![pair(u, z), pair(v, z), pair(u, v)],
+    };
+    let held = made.into_iter().filter(|&(a, b)| lifted.held.holds(a, b));
+    let before: Vec<(Pair, Origin)> = held.map(|pair| (pair, lifted.origin(pair))).collect();
+    let put = lifted.undo(place, taken);
+    let fate = |&((a, b), origin): &(Pair, Origin)| {
+        let is_short = origin == Origin::Short;
+        match (put.contains(&(a, b)), lifted.held.holds(a, b)) {
+            (true, _) if is_short => "pair of the short pairing put in for itself",
+            (true, _) => "pair from a step put in for itself",
+            (_, true) if is_short => "direct pair of the short pairing kept",
+            (_, true) => "direct pair from a later step kept",
+            _ if is_short => "pair of the short pairing replaced",
+            _ => "pair from a step replaced",
+        }
+    };
+    before.iter().map(fate).collect()
+}
+
+// Two cells, the lower first.
+fn pair(one: u64, other: u64) -> Pair {
+    (one.min(other), one.max(other))
+}
+
+// Cases of the origins of a lifted pairing, after steps or none.
+fn of_origins(lifted: &Lifted, has_steps: bool) -> Vec<&'static str> {
+    let pairs = lifted.pairs().into_iter();
+    let origins: Vec<[u64; 2]> = pairs.map(|(_, origin)| origin.step_and_rule()).collect();
+    let short = origins.iter().filter(|&&[step, _]| step == 0).count();
+    let is_from = |wanted: u64| origins.iter().any(|&[_, rule]| rule == wanted);
+    let mut met = Vec::new();
+    if short > 0 && short < origins.len() {
+        met.push("pairs from short pairing and steps");
+    }
+    if short > 0 && short == origins.len() && has_steps {
+        met.push("all from the short pairing, after steps");
+    }
+    if [LEAF, RING, CHAIN].into_iter().all(is_from) {
+        met.push("pairs from leaf, ring and chain");
+    }
+    if origins.iter().any(|&[step, _]| step >= 300) {
+        met.push("pair from step 300 or a later one");
+    }
+    met
 }

@@ -26,12 +26,15 @@ extern "C" {
         work_b_len: usize,
         lifted: *mut u8,
         lifted_room: usize,
+        origins: *mut u8,
+        origins_room: usize,
         lifted_len: *mut u64,
+        origins_len: *mut u64,
     ) -> u32;
 }
 
 /// Lifts a pairing (file 2) of what a slip (file 1) leaves of a list (file 0);
-/// the output is a pairing of the list.
+/// the outputs are a pairing of the list and its origin list.
 pub struct Lift;
 
 impl Call for Lift {
@@ -42,7 +45,8 @@ impl Call for Lift {
         &cases::OF_MANY_LEFT,
         &cases::OF_WAY_BACK,
         &cases::OF_LIFT,
-        &cases::OF_ONE_FILE,
+        &cases::OF_ORIGINS,
+        &cases::OF_TWO_FILES,
     ];
 
     fn rows() -> Vec<Row> {
@@ -79,6 +83,8 @@ impl Call for Lift {
         lengths: &mut [u64],
     ) -> u32 {
         let (list, slip, pairing) = (files.file(0), files.file(1), files.file(2));
+        let (lifted, origins) = outputs.split_at_mut(1);
+        let (lifted_len, origins_len) = lengths.split_at_mut(2);
         // The pointers and lengths are those of slices that live through the call.
         unsafe {
             cells_lift(
@@ -92,9 +98,12 @@ impl Call for Lift {
                 work_a.len(),
                 work_b.as_mut_ptr(),
                 work_b.len(),
-                outputs[0].as_mut_ptr(),
-                outputs[0].len(),
-                &mut lengths[1],
+                lifted[0].as_mut_ptr(),
+                lifted[0].len(),
+                origins[0].as_mut_ptr(),
+                origins[0].len(),
+                &mut lifted_len[1],
+                &mut origins_len[1],
             )
         }
     }

@@ -1,12 +1,14 @@
 //! The reference of solve, lift and pair against the document, without the
 //! library: its worked rows, then all pairings of what slips leave of small
-//! lists, with the way back and the order of solve taken literally.
+//! lists, with the way back and the order of solve taken literally. The origins
+//! are found in two other ways: by the first step of the slip whose undoing puts
+//! the pair in, and, without the way back, by the first step whose row has it.
 
-use std::collections::BTreeSet;
+use std::collections::{BTreeMap, BTreeSet};
 
-use crate::graph::{self, Graph, Named, CHAIN, LEAF, RING};
+use crate::graph::{self, Graph, Named, Step, LEAF, RING};
 use crate::inputs::{Form, Random};
-use crate::lifting::{self, Held, Taken};
+use crate::lifting::{self, Held, Lifted, Taken};
 use crate::lifting_rows;
 use crate::pairings;
 use crate::reference::{self, Input, Pair};
@@ -20,6 +22,8 @@ const LISTS: u64 = 300;
 
 /// Pairs in which no cell stands twice.
 type Pairing = BTreeSet<Pair>;
+/// The step and rule of each pair of a pairing, zero both for the short pairing.
+type Origins = BTreeMap<Pair, [u64; 2]>;
 
 /// Checks the reference; ends at the first fault.
 pub fn run(seed: u64) {
@@ -32,7 +36,7 @@ pub fn run(seed: u64) {
     let mut lifted = 0;
     for (cells, points) in selfcheck::ALL_LISTS {
         for graph in selfcheck::all_graphs(cells, points) {
-            lifted += check_all_slips(&Store::new(graph.clone()), &graph, &mut Vec::new(), 0);
+            lifted += check_all_slips(&Store::new(graph.clone()), &graph, &mut Way::default(), 0);
         }
     }
     let mut random = Random::new(seed);
@@ -146,14 +150,64 @@ fn literal_row(pairs: &Pairs, named: Named) -> Vec<u64> {
     row.expect("the row of a step that is allowed")
 }
 
-// The way back over one step, from a pairing of the graph after it to one of the
-// graph before it.
-fn literal_undo(pairs: &Pairs, named: Named, row: &[u64], held: &Pairing) -> Pairing {
-    match named.rule {
-        LEAF => undo_leaf(pairs, named.cell, held),
-        RING => undo_ring(pairs, named.cell, row, held),
-        _ => undo_chain(pairs, named.cell, row, held),
+/// A step by its words: the pairs before it, its name, and the cells of its ring or
+/// chain in reading order.
+struct Literal {
+    before: Pairs,
+    named: Named,
+    row: Vec<u64>,
+}
+
+impl Literal {
+    // The step of this name on these pairs, on which it is allowed.
+    fn new(before: Pairs, named: Named) -> Literal {
+        let row = match named.rule {
+            LEAF => Vec::new(),
+            _ => literal_row(&before, named),
+        };
+        Literal { before, named, row }
     }
+
+    // The way back over the step, from a pairing of the graph after it to one of the
+    // graph before it.
+    fn undo(&self, held: &Pairing) -> Change {
+        let (pairs, cell) = (&self.before, self.named.cell);
+        match self.named.rule {
+            LEAF => undo_leaf(pairs, cell, held),
+            RING => undo_ring(pairs, cell, &self.row, held),
+            _ => undo_chain(pairs, cell, &self.row, held),
+        }
+    }
+}
+
+/// What the words take out of a pairing and put into it in undoing a step.
+struct Change {
+    out: Option<Pair>,
+    put: Pairing,
+}
+
+impl Change {
+    // What it makes of a pairing.
+    fn of(&self, held: &Pairing) -> Pairing {
+        let mut held = held.clone();
+        if let Some(out) = self.out {
+            held.remove(&out);
+        }
+        &held | &self.put
+    }
+}
+
+// A pair is replaced by others.
+fn replaced(out: Pair, put: Pairing) -> Change {
+    Change {
+        out: Some(out),
+        put,
+    }
+}
+
+// Pairs are added.
+fn added(put: Pairing) -> Change {
+    Change { out: None, put }
 }
 
 // Two cells, the lower first.
@@ -161,31 +215,22 @@ fn pair(one: u64, other: u64) -> Pair {
     (one.min(other), one.max(other))
 }
 
-// A pairing without some pair and with the pairs of another.
-fn replaced(held: &Pairing, out: Option<Pair>, by: &Pairing) -> Pairing {
-    let mut held = held.clone();
-    if let Some(out) = out {
-        held.remove(&out);
-    }
-    &held | by
-}
-
 // If u is unpaired, add the pair u, v.
-fn undo_leaf(pairs: &Pairs, v: u64, held: &Pairing) -> Pairing {
+fn undo_leaf(pairs: &Pairs, v: u64, held: &Pairing) -> Change {
     let u = selfcheck::partners(pairs, v)[0];
     let is_paired = held.iter().any(|&(a, b)| a == u || b == u);
-    let added = if is_paired { None } else { Some(pair(u, v)) };
-    replaced(held, None, &added.into_iter().collect())
+    let new = if is_paired { None } else { Some(pair(u, v)) };
+    added(new.into_iter().collect())
 }
 
 // If the pair u, z is held, replace it by the best of C, else add the best of C less u.
-fn undo_ring(pairs: &Pairs, z: u64, ring: &[u64], held: &Pairing) -> Pairing {
+fn undo_ring(pairs: &Pairs, z: u64, ring: &[u64], held: &Pairing) -> Change {
     let u = ring[0];
     if held.contains(&pair(u, z)) {
         let whole = [ring, &[u]].concat();
-        replaced(held, Some(pair(u, z)), &literal_best(pairs, &whole))
+        replaced(pair(u, z), literal_best(pairs, &whole))
     } else {
-        replaced(held, None, &literal_best(pairs, &ring[1..]))
+        added(literal_best(pairs, &ring[1..]))
     }
 }
 
@@ -193,23 +238,64 @@ fn undo_ring(pairs: &Pairs, z: u64, ring: &[u64], held: &Pairing) -> Pairing {
 // of P less u. With u, v held and its present points greater than H(P) minus H(Q),
 // keep it and add the best of Q; otherwise replace it by the best of P. With none
 // of the three held, add the best of Q.
-fn undo_chain(pairs: &Pairs, z: u64, chain: &[u64], held: &Pairing) -> Pairing {
+fn undo_chain(pairs: &Pairs, z: u64, chain: &[u64], held: &Pairing) -> Change {
     let last = chain.len() - 1;
     let (u, v) = (chain[0], chain[last]);
     let best = |cells: &[u64]| literal_best(pairs, cells);
     let heaviest = |cells: &[u64]| points_of(&best(cells), pairs).unwrap_or(0);
     let (p, q) = (chain, &chain[1..last]);
     if held.contains(&pair(u, z)) {
-        return replaced(held, Some(pair(u, z)), &best(&chain[..last]));
+        return replaced(pair(u, z), best(&chain[..last]));
     }
     if held.contains(&pair(v, z)) {
-        return replaced(held, Some(pair(v, z)), &best(&chain[1..]));
+        return replaced(pair(v, z), best(&chain[1..]));
     }
     let present = pairs.get(&(u, v)).copied().unwrap_or(0);
     if held.contains(&(u, v)) && present <= heaviest(p) - heaviest(q) {
-        return replaced(held, Some((u, v)), &best(p));
+        return replaced((u, v), best(p));
     }
-    replaced(held, None, &best(q))
+    added(best(q))
+}
+
+// The origins of what becomes of a pairing on the way back through steps. The last is
+// undone first, so of the steps that put a pair in the first of the slip did it last.
+fn literal_origins(steps: &[Literal], short: &Pairing) -> Origins {
+    let mut held = short.clone();
+    let mut put_in = Vec::new();
+    for step in steps.iter().rev() {
+        let change = step.undo(&held);
+        held = change.of(&held);
+        put_in.push(change.put);
+    }
+    put_in.reverse();
+    let origin = |pair: &Pair| match put_in.iter().position(|put| put.contains(pair)) {
+        Some(place) => [place as u64 + 1, steps[place].named.rule],
+        None => [0, 0],
+    };
+    held.iter().map(|pair| (*pair, origin(pair))).collect()
+}
+
+// The origins of a lifted pairing, without the way back. The row of a step is the pair
+// u, v of a leaf or the pairs of its ring or chain. After the step no pair of the row is
+// left but those that it made at z, and these are taken out when it is undone: what a
+// pairing then has of the row was put in. The first step whose row has a pair did it last.
+fn origins_by_rows(taken: &[Taken], lifted: &Pairing) -> Origins {
+    let row = |step: &Taken| -> Vec<Pair> {
+        match step.step {
+            Step::Leaf { v, u } => vec![pair(u, v)],
+            _ => step.row.iter().map(|&(pair, _)| pair).collect(),
+        }
+    };
+    let mut first: Origins = BTreeMap::new();
+    for (number, step) in (1..).zip(taken) {
+        for pair in row(step) {
+            first
+                .entry(pair)
+                .or_insert([number, step.step.named().rule]);
+        }
+    }
+    let origin = |pair: &Pair| first.get(pair).copied().unwrap_or([0, 0]);
+    lifted.iter().map(|pair| (*pair, origin(pair))).collect()
 }
 
 // All slips of small graphs
@@ -246,9 +332,31 @@ fn set_of(held: &Held) -> Pairing {
     held.pairs().into_iter().collect()
 }
 
+// The origins of a lifted pairing by the reference.
+fn origins_of(lifted: &Lifted) -> Origins {
+    let pairs = lifted.pairs().into_iter();
+    pairs
+        .map(|(pair, origin)| (pair, origin.step_and_rule()))
+        .collect()
+}
+
+// Checks that origins are those of another way.
+fn check_origins(origins: &Origins, others: &Origins) {
+    expect(origins == others, || {
+        format!("the origins are {origins:?} and not {others:?}")
+    });
+}
+
+/// The steps of a slip, as the reference takes them and by the words.
+#[derive(Default)]
+struct Way {
+    taken: Vec<Taken>,
+    literal: Vec<Literal>,
+}
+
 // Checks what a slip leaves: solve, all pairings lifted through the whole slip,
 // and each step that can follow; how many pairings were lifted.
-fn check_all_slips(store: &Store, graph: &Graph, taken: &mut Vec<Taken>, carried: u64) -> u64 {
+fn check_all_slips(store: &Store, graph: &Graph, way: &mut Way, carried: u64) -> u64 {
     let pairs = pairs_of(graph);
     check_solve(graph);
     let all = all_pairings(&pairs);
@@ -257,19 +365,26 @@ fn check_all_slips(store: &Store, graph: &Graph, taken: &mut Vec<Taken>, carried
         format!("{pairs:?}: a point is gained or lost")
     });
     for held in &all {
-        let lifted = lifting::lift(taken, Held::new(held.iter().copied()));
+        let lifted = lifting::lift(&way.taken, Held::new(held.iter().copied()));
         let points = points_of(held, &pairs).unwrap_or(0);
-        store.check(&set_of(&lifted), points, carried);
+        let origins = origins_of(&lifted);
+        let lifted = set_of(&lifted.held);
+        store.check(&lifted, points, carried);
+        check_origins(&origins, &literal_origins(&way.literal, held));
+        check_origins(&origins, &origins_by_rows(&way.taken, &lifted));
     }
     let mut lifted = all.len() as u64;
     for step in graph.steps() {
         let mut after = graph.clone();
         let one = Taken::new(graph, step);
         let carry = after.take(&one.step);
-        check_undo(&pairs, &one, &pairs_of(&after));
-        taken.push(one);
-        lifted += check_all_slips(store, &after, taken, carried + carry);
-        taken.pop();
+        let literal = Literal::new(pairs.clone(), one.step.named());
+        check_undo(&literal, &one, &pairs_of(&after));
+        way.taken.push(one);
+        way.literal.push(literal);
+        lifted += check_all_slips(store, &after, way, carried + carry);
+        way.taken.pop();
+        way.literal.pop();
     }
     lifted
 }
@@ -284,18 +399,15 @@ fn check_solve(graph: &Graph) {
 }
 
 // Checks the way back over one step against the words, for all pairings after it.
-fn check_undo(before: &Pairs, taken: &Taken, after: &Pairs) {
-    let named = taken.step.named();
-    let row = match named.rule {
-        RING | CHAIN => literal_row(before, named),
-        _ => Vec::new(),
-    };
+fn check_undo(literal: &Literal, taken: &Taken, after: &Pairs) {
+    let (before, named) = (&literal.before, literal.named);
     for held in all_pairings(after) {
         let mut undone = Held::new(held.iter().copied());
-        taken.undo(&mut undone);
-        let literal = literal_undo(before, named, &row, &held);
-        expect(set_of(&undone) == literal, || {
-            format!("{before:?}, {named:?}: {held:?} goes back to {undone:?} and not {literal:?}")
+        let put: Pairing = taken.undo(&mut undone).into_iter().collect();
+        let change = literal.undo(&held);
+        let back = change.of(&held);
+        expect(set_of(&undone) == back && put == change.put, || {
+            format!("{before:?}, {named:?}: {held:?} goes back to {undone:?} and not {back:?}")
         });
     }
 }
@@ -317,9 +429,13 @@ fn check_small_list(random: &mut Random, list: &Form) -> u64 {
     lifted
 }
 
-// The pairs of a pairing that a call writes.
+// The pairs of a pairing that solve writes.
 fn written_pairing(list: &Form, mut input: Input) -> Pairing {
-    let file = &written(&mut input, 1)[0];
+    pairing_in(list, &written(&mut input, 1)[0])
+}
+
+// The pairs of a pairing's file.
+fn pairing_in(list: &Form, file: &[u8]) -> Pairing {
     let entry = |three| (number(three) >> 14, number(three) >> 4 & 0x3FF);
     let entries: Vec<Pair> = file[4..].chunks(3).map(entry).collect();
     selfcheck::check_header(file, 4, list, entries.len());
@@ -330,6 +446,34 @@ fn written_pairing(list: &Form, mut input: Input) -> Pairing {
         "a pairing is not ascending".to_string()
     });
     entries.into_iter().collect()
+}
+
+// The pairs that lift or pair writes, each with its step and rule: the origin list
+// has the pairing's entries in their order.
+fn written_origins(list: &Form, mut input: Input) -> Origins {
+    let files = written(&mut input, 2);
+    let pairing = pairing_in(list, &files[0]);
+    let entry = |five| {
+        let word = number(five);
+        let cells: Pair = (word >> 30, word >> 20 & 0x3FF);
+        (cells, [word >> 9 & 0x7FF, word >> 6 & 7])
+    };
+    let entries: Vec<(Pair, [u64; 2])> = files[1][4..].chunks(5).map(entry).collect();
+    selfcheck::check_header(&files[1], 5, list, entries.len());
+    let fives = files[1][4..].chunks(5);
+    expect(fives.into_iter().all(|five| five[4] & 63 == 0), || {
+        "a zero bit of an origin list is set".to_string()
+    });
+    let cells = entries.iter().map(|&(cells, _)| cells);
+    expect(cells.eq(pairing), || {
+        "an origin list has not the pairs of its pairing".to_string()
+    });
+    entries.into_iter().collect()
+}
+
+// The pairs of origins.
+fn pairs_in(origins: &Origins) -> Pairing {
+    origins.keys().copied().collect()
 }
 
 // The number in bytes, the most significant first.
@@ -344,10 +488,11 @@ fn file_of(list: &Form, pairing: &Pairing) -> Vec<u8> {
 }
 
 // Checks that pair writes a heaviest pairing of the list, and the one that
-// reduce, solve and lift make one after the other.
+// reduce, solve and lift make one after the other, with the same origins.
 fn check_pair(list: &Form) {
     let bytes = list.bytes();
-    let paired = written_pairing(list, Input::pair(&bytes));
+    let origins = written_origins(list, Input::pair(&bytes));
+    let paired = pairs_in(&origins);
     let pairs = pairs_of(&slips::graph_of(list));
     expect(
         points_of(&paired, &pairs) == Some(selfcheck::heaviest(&pairs)),
@@ -356,13 +501,13 @@ fn check_pair(list: &Form) {
     let slip = &written(&mut Input::reduce(&bytes), 2)[0];
     let solved = written_pairing(list, Input::solve(&bytes, slip));
     let lifted = Input::lift(&bytes, slip, &file_of(list, &solved));
-    expect(paired == written_pairing(list, lifted), || {
-        format!("{pairs:?}: {paired:?} is not lifted from {solved:?}")
+    expect(origins == written_origins(list, lifted), || {
+        format!("{pairs:?}: {origins:?} is not lifted from {solved:?}")
     });
 }
 
 // Checks solve and lift with a slip: all pairings of what it leaves are lifted, a
-// heaviest one to a heaviest one, and all other pairs are refused.
+// heaviest one to a heaviest one, with their origins, and all other pairs are refused.
 fn check_slip(list: &Form, steps: &[Named]) -> u64 {
     let (bytes, slip) = (list.bytes(), slips::form(list.n, steps).bytes());
     let store = Store::new(slips::graph_of(list));
@@ -374,9 +519,12 @@ fn check_slip(list: &Form, steps: &[Named]) -> u64 {
     });
     let all = all_pairings(&pairs);
     let most = selfcheck::heaviest(&pairs);
+    let literal = literal_steps(list, steps);
     for held in &all {
         let lifted = Input::lift(&bytes, &slip, &file_of(list, held));
-        let lifted = written_pairing(list, lifted);
+        let origins = written_origins(list, lifted);
+        check_origins(&origins, &literal_origins(&literal, held));
+        let lifted = pairs_in(&origins);
         let points = points_of(held, &pairs).unwrap_or(0);
         store.check(&lifted, points, left.carried);
         let heaviest = points_of(&lifted, &store.pairs) == Some(store.most);
@@ -386,6 +534,18 @@ fn check_slip(list: &Form, steps: &[Named]) -> u64 {
     }
     check_single_pairs(list, &slip, &pairs);
     all.len() as u64
+}
+
+// The steps of a slip that is allowed, by the words.
+fn literal_steps(list: &Form, steps: &[Named]) -> Vec<Literal> {
+    let mut graph = slips::graph_of(list);
+    let mut literal = Vec::new();
+    for &named in steps {
+        literal.push(Literal::new(pairs_of(&graph), named));
+        let step = graph.step(named).expect("a step that is allowed");
+        graph.take(&step);
+    }
+    literal
 }
 
 // Checks that a single pair of the list's cells is taken exactly if the slip leaves it.
@@ -406,14 +566,16 @@ fn check_single_pairs(list: &Form, slip: &[u8], left: &Pairs) {
 // Lists of any size
 
 // Checks that a pairing of what a slip leaves is lifted to one of the list, with
-// so many points more as the slip carries.
+// so many points more as the slip carries, and its origins.
 fn check_list(random: &mut Random, list: &Form) {
     let store = pairs_of(&slips::graph_of(list));
     let steps = slips::allowed_slip(random, slips::graph_of(list));
     let (left, _) = graph::replay(slips::graph_of(list), &steps);
     let held = pairings::valid_pairing(random, list, &left);
     let slip = slips::form(list.n, &steps).bytes();
-    let lifted = written_pairing(list, Input::lift(&list.bytes(), &slip, &held.bytes()));
+    let origins = written_origins(list, Input::lift(&list.bytes(), &slip, &held.bytes()));
+    let lifted = pairs_in(&origins);
+    check_origins(&origins, &origins_by_rows(&left.taken, &lifted));
     let held: Pairing = held.entries.iter().map(|&[a, b, _]| (a, b)).collect();
     let points = points_of(&held, &pairs_of(&left.graph));
     expect(points.is_some(), || format!("{held:?} is no pairing"));

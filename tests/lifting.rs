@@ -1,11 +1,12 @@
-//! The heaviest pairing of what is left, the best of a row, and the way back
-//! through the steps of a slip, in the document's words.
+//! The heaviest pairing of what is left, the best of a row, the way back
+//! through the steps of a slip, and where each pair came from on it, in the
+//! document's words.
 //!
-//! In order: pairings, solve, the best of a row, the way back.
+//! In order: pairings, solve, the best of a row, the way back, origins.
 
 use std::collections::BTreeMap;
 
-use crate::graph::{heaviest_of_path, Graph, Step};
+use crate::graph::{heaviest_of_path, Graph, Named, Step};
 use crate::reference::Pair;
 
 // Pairings
@@ -207,22 +208,26 @@ impl Taken {
         }
     }
 
-    /// Makes of a pairing of the graph after the step one of the graph before it.
-    pub fn undo(&self, held: &mut Held) {
+    /// Makes of a pairing of the graph after the step one of the graph before it;
+    /// answers the pairs that it puts in, also in place of themselves.
+    pub fn undo(&self, held: &mut Held) -> Vec<Pair> {
         let z = self.step.named().cell;
-        match &self.step {
+        // Each takes out what is replaced and answers what comes in.
+        let put = match &self.step {
             Step::Leaf { v, u } => undo_leaf(held, *v, *u),
             Step::Ring { cells } => self.undo_ring(held, cells[0], z),
             Step::Chain { cells } => self.undo_chain(held, ends(cells), z),
-        }
+        };
+        held.add_all(put.iter().copied());
+        put
     }
 
     // If the pair u, z is held, replace it by the best of C, else add the best of C less u.
-    fn undo_ring(&self, held: &mut Held, u: u64, z: u64) {
+    fn undo_ring(&self, held: &mut Held, u: u64, z: u64) -> Vec<Pair> {
         if held.remove(u, z) {
-            held.add_all(best_of_ring(&self.row));
+            best_of_ring(&self.row)
         } else {
-            held.add_all(best_of_path(&self.row[1..self.row.len() - 1]));
+            best_of_path(&self.row[1..self.row.len() - 1])
         }
     }
 
@@ -230,19 +235,19 @@ impl Taken {
     // best of P less u. With u, v held and its present points greater than H(P)
     // minus H(Q), keep it and add the best of Q; otherwise replace it by the best
     // of P. With none of the three held, add the best of Q.
-    fn undo_chain(&self, held: &mut Held, [u, v]: [u64; 2], z: u64) {
+    fn undo_chain(&self, held: &mut Held, [u, v]: [u64; 2], z: u64) -> Vec<Pair> {
         let last = self.row.len() - 1;
         let (p, q) = (&self.row[..], &self.row[1..last]);
         let (p_less_v, p_less_u) = (&self.row[..last], &self.row[1..]);
         if held.remove(u, z) {
-            held.add_all(best_of_path(p_less_v));
+            best_of_path(p_less_v)
         } else if held.remove(v, z) {
-            held.add_all(best_of_path(p_less_u));
+            best_of_path(p_less_u)
         } else if held.holds(u, v) && !self.direct_pair_is_heavier() {
             held.remove(u, v);
-            held.add_all(best_of_path(p));
+            best_of_path(p)
         } else {
-            held.add_all(best_of_path(q));
+            best_of_path(q)
         }
     }
 
@@ -264,16 +269,88 @@ fn ends(cells: &[u64]) -> [u64; 2] {
 }
 
 // If u is unpaired, add the pair u, v.
-fn undo_leaf(held: &mut Held, v: u64, u: u64) {
-    if !held.is_paired(u) {
-        held.add(u, v);
+fn undo_leaf(held: &Held, v: u64, u: u64) -> Vec<Pair> {
+    if held.is_paired(u) {
+        Vec::new()
+    } else {
+        vec![(u.min(v), u.max(v))]
     }
 }
 
 /// The way back through all the steps, the last first.
-pub fn lift(taken: &[Taken], mut held: Held) -> Held {
-    for step in taken.iter().rev() {
-        step.undo(&mut held);
+pub fn lift(taken: &[Taken], held: Held) -> Lifted {
+    let mut lifted = Lifted::new(held);
+    for (place, step) in taken.iter().enumerate().rev() {
+        lifted.undo(place, step);
     }
-    held
+    lifted
+}
+
+// Origins
+
+/// Where a pair came from: it stood in the short pairing and was never replaced,
+/// or a step put it in last; its number counts from 1.
+#[derive(Clone, Copy, Debug, PartialEq, Eq)]
+pub enum Origin {
+    Short,
+    Step { number: u64, rule: u64 },
+}
+
+impl Origin {
+    /// The origin of a pair that the step at a place of the slip puts in; the
+    /// first place is 0.
+    pub fn of_place(place: usize, named: Named) -> Origin {
+        Origin::Step {
+            number: place as u64 + 1,
+            rule: named.rule,
+        }
+    }
+
+    /// The number of the step and its rule, zero both for the short pairing.
+    pub fn step_and_rule(self) -> [u64; 2] {
+        match self {
+            Origin::Short => [0, 0],
+            Origin::Step { number, rule } => [number, rule],
+        }
+    }
+}
+
+/// A pairing on the way back, with the origin of each pair of it. A pair that was
+/// taken out keeps its last origin here until it is put in again.
+pub struct Lifted {
+    pub held: Held,
+    origins: BTreeMap<Pair, Origin>,
+}
+
+impl Lifted {
+    /// The short pairing: nothing is undone yet.
+    pub fn new(held: Held) -> Lifted {
+        let pairs = held.pairs().into_iter();
+        Lifted {
+            origins: pairs.map(|pair| (pair, Origin::Short)).collect(),
+            held,
+        }
+    }
+
+    /// Undoes the step at a place of the slip; answers the pairs that it puts in.
+    /// They are from this step now, every other pair that is held stays what it was.
+    pub fn undo(&mut self, place: usize, taken: &Taken) -> Vec<Pair> {
+        let put = taken.undo(&mut self.held);
+        let origin = Origin::of_place(place, taken.step.named());
+        for &pair in &put {
+            self.origins.insert(pair, origin);
+        }
+        put
+    }
+
+    /// The pairs in order, the lower cell first, each with its origin.
+    pub fn pairs(&self) -> Vec<(Pair, Origin)> {
+        let pairs = self.held.pairs().into_iter();
+        pairs.map(|pair| (pair, self.origin(pair))).collect()
+    }
+
+    /// The origin of a pair that is held.
+    pub fn origin(&self, pair: Pair) -> Origin {
+        self.origins[&pair]
+    }
 }

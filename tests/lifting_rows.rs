@@ -1,10 +1,15 @@
 //! Worked rows of solve, lift and pair: calls with the answers that the
 //! document gives or that follow from its words by hand. Lists, slips and
-//! pairings are written as there.
+//! pairings are written as there, a pairing with its origins as
+//! `0-3 short, 1-2 step 1 chain`.
 
+use crate::graph::LEAF;
 use crate::inputs::{Entry, Form};
+use crate::lifting::Origin;
 use crate::reference::{self, Pair};
-use crate::rows::{self, all_pairs, first_pairs, list, slip, Row, FIRST, FIRST_LIST, TRIANGLE};
+use crate::rows::{
+    self, all_pairs, first_pairs, list, slip, Row, FIRST, FIRST_LIST, PLENTY, TRIANGLE,
+};
 
 // Notation
 
@@ -21,10 +26,42 @@ fn pairing(n: u64, text: &str) -> Vec<u8> {
     reference::pairing_file(n, &cells(text))
 }
 
+// A pairing and its origin list: each pair is written with `short`, or with
+// `step`, the step's number and its rule.
+fn with_origins(n: u64, text: &str) -> Vec<Vec<u8>> {
+    let origin = |words: &[&str]| match words {
+        ["short"] => Origin::Short,
+        ["step", number, rule] => Origin::Step {
+            number: number.parse().expect("a step's number"),
+            rule: rows::rule(rule),
+        },
+        _ => panic!("no origin: {words:?}"),
+    };
+    let pair_and_origin = |part: &str| {
+        let words: Vec<&str> = part.split_whitespace().collect();
+        (cells(words[0])[0], origin(&words[1..]))
+    };
+    let parts = text.split(',').filter(|part| !part.trim().is_empty());
+    let pairs: Vec<(Pair, Origin)> = parts.map(pair_and_origin).collect();
+    reference::lifted_files(n, &pairs)
+}
+
 // Each even cell with the next one, up to so many cells.
 fn couples(n: u64) -> Vec<u8> {
     let pairs = (0..n / 2).map(|couple| (2 * couple, 2 * couple + 1));
     reference::pairing_file(n, &pairs.collect::<Vec<_>>())
+}
+
+// The first so many of these pairs in n cells and their origin list, from the origin
+// of each by its place, the first being 0.
+fn couples_from(n: u64, count: u64, origin: impl Fn(u64) -> Origin) -> Vec<Vec<u8>> {
+    let pairs = (0..count).map(|couple| ((2 * couple, 2 * couple + 1), origin(couple)));
+    reference::lifted_files(n, &pairs.collect::<Vec<_>>())
+}
+
+// From the leaf step of this number.
+fn leaf_step(number: u64) -> Origin {
+    Origin::Step { number, rule: LEAF }
 }
 
 // 512 pairs that have no cell in common, of the largest points.
@@ -54,6 +91,12 @@ const RING_AT_FOUR: &str = "0-4:1, 4-5:5, 4-7:5, 5-6:5, 6-7:5";
 const RING_TO_THREE: &str = "0-3:1, 0-5:1, 2-3:1, 2-5:1";
 /// A chain read 0, 5, 4, 3, 1.
 const CHAIN_FROM_FIVE: &str = "0-5:1, 1-3:1, 3-4:1, 4-5:1";
+/// Two chains between 0 and 3, over 1 and 2 and over 4 and 5, and a direct pair that
+/// is heavier than both, or equal to each.
+const TWO_CHAINS: &str = "0-1:10, 0-3:25, 0-4:10, 1-2:1, 2-3:10, 3-5:10, 4-5:1";
+const TWO_EQUAL: &str = "0-1:10, 0-3:19, 0-4:10, 1-2:1, 2-3:10, 3-5:10, 4-5:1";
+/// A chain that leaves nothing, beside a direct pair.
+const LIGHT_CHAIN: &str = "0-1:1, 0-3:25, 0-4:1, 1-2:10, 2-3:1, 3-5:1";
 /// Chains that come out with pairs of zero points.
 const ALL_ZERO: &str = "0-1:1, 1-2:10, 2-3:1";
 const ONE_ZERO: &str = "0-1:2, 1-2:3, 2-3:5";
@@ -66,8 +109,26 @@ const CHAIN_OF_RINGS: &str = "0-1:10, 0-2:10, 1-3:10, 2-4:5, 2-5:4, 3-6:9, 3-7:9
 
 /// The first list's pairing, 0-1, 2-3.
 const FIRST_PAIRING: [u8; 10] = [0x40, 0x08, 0x00, 0x20, 0x00, 0x00, 0x10, 0x00, 0x80, 0x30];
+/// Its origins: step 1, leaf and step 2, leaf; and both step 1, chain.
+const FROM_LEAVES: [u8; 14] = [
+    0x50, 0x08, 0x00, 0x20, // kind 5, n = 4, m = 2
+    0x00, 0x00, 0x10, 0x02, 0x40, // 0-1 step 1 leaf
+    0x00, 0x80, 0x30, 0x04, 0x40, // 2-3 step 2 leaf
+];
+const FROM_CHAIN_ONE: [u8; 14] = [
+    0x50, 0x08, 0x00, 0x20, // kind 5, n = 4, m = 2
+    0x00, 0x00, 0x10, 0x02, 0xC0, // 0-1 step 1 chain
+    0x00, 0x80, 0x30, 0x02, 0xC0, // 2-3 step 1 chain
+];
 /// Its pairing after chain 1, 0-3.
 const ZERO_THREE: [u8; 7] = [0x40, 0x08, 0x00, 0x10, 0x00, 0x00, 0x30];
+/// The pairing 0-1 of the triangle's three cells, and its origin, step 1, ring.
+const ZERO_ONE: [u8; 7] = [0x40, 0x06, 0x00, 0x10, 0x00, 0x00, 0x10];
+const FROM_RING_ONE: [u8; 9] = [0x50, 0x06, 0x00, 0x10, 0x00, 0x00, 0x10, 0x02, 0x80];
+/// The pairing 0-1023 of 1,024 cells, its origin in the short pairing, and from step 1, leaf.
+const WIDE_PAIRING: [u8; 7] = [0x48, 0x00, 0x00, 0x10, 0x00, 0x3F, 0xF0];
+const WIDE_SHORT: [u8; 9] = [0x58, 0x00, 0x00, 0x10, 0x00, 0x3F, 0xF0, 0x00, 0x00];
+const WIDE_LEAF_ONE: [u8; 9] = [0x58, 0x00, 0x00, 0x10, 0x00, 0x3F, 0xF0, 0x02, 0x40];
 
 // Solve
 
@@ -205,9 +266,10 @@ fn solve_rows_of_refusals() -> Vec<Row> {
 
 // Lift
 
-/// The rows of lift: the output is a pairing of the list.
+/// The rows of lift: the outputs are a pairing of the list and its origin list.
 pub fn lift_rows() -> Vec<Row> {
-    let mut rows = lift_rows_of_leaves();
+    let mut rows = lift_rows_of_bytes();
+    rows.extend(lift_rows_of_leaves());
     rows.extend(lift_rows_of_rings());
     rows.extend(lift_rows_of_chains());
     rows.extend(lift_rows_of_direct_pairs());
@@ -221,123 +283,291 @@ pub fn lift_rows() -> Vec<Row> {
             rows::CHAIN_ONE.to_vec(),
             ZERO_THREE.to_vec(),
         ],
-        vec![FIRST_PAIRING.to_vec()],
+        vec![FIRST_PAIRING.to_vec(), FROM_CHAIN_ONE.to_vec()],
     ));
     rows
 }
 
-// A pairing of what a slip leaves of a list is lifted to one of the list.
+// A pairing of what a slip leaves of a list is lifted to one of the list, with its origins.
 fn lifted(n: u64, text: &str, taken: &str, held: &str, to: &str) -> Row {
     let name = format!("{text}; {taken}; {held}");
     let files = vec![list(n, text), slip(n, taken), pairing(n, held)];
-    Row::new(&name, files, 1, Ok(vec![pairing(n, to)]))
+    Row::new(&name, files, 2, Ok(with_origins(n, to)))
 }
 
 // A pairing is refused for what a slip leaves of a list.
 fn not_lifted(n: u64, text: &str, taken: &str, held: &str, number: u32) -> Row {
     let name = format!("{text}; {taken}; {held}");
     let files = vec![list(n, text), slip(n, taken), pairing(n, held)];
-    Row::new(&name, files, 1, Err(number))
+    Row::new(&name, files, 2, Err(number))
+}
+
+// Rows written byte by byte.
+fn lift_rows_of_bytes() -> Vec<Row> {
+    let row = |name: &str, files: [&[u8]; 3], written: [&[u8]; 2]| {
+        let files = files.map(<[u8]>::to_vec).to_vec();
+        Row::new(name, files, 2, Ok(written.map(<[u8]>::to_vec).to_vec()))
+    };
+    let triangle = list(3, TRIANGLE);
+    vec![
+        row(
+            "first list, leaf 0, leaf 2",
+            [&FIRST_LIST, &rows::TWO_LEAVES, &pairing(4, "")],
+            [&FIRST_PAIRING, &FROM_LEAVES],
+        ),
+        row(
+            "first list, chain 1, 0-3",
+            [&FIRST_LIST, &rows::CHAIN_ONE, &ZERO_THREE],
+            [&FIRST_PAIRING, &FROM_CHAIN_ONE],
+        ),
+        row(
+            "0-1:5, 0-2:4, 1-2:3, ring 1, 0-1",
+            [&triangle, &rows::RING_ONE, &ZERO_ONE],
+            [&ZERO_ONE, &FROM_RING_ONE],
+        ),
+        row(
+            "0-1023:7, no step",
+            [&rows::WIDE_LIST, &slip(1024, ""), &WIDE_PAIRING],
+            [&WIDE_PAIRING, &WIDE_SHORT],
+        ),
+        row(
+            "0-1023:7, leaf 1023",
+            [&rows::WIDE_LIST, &rows::WIDE_LEAF, &pairing(1024, "")],
+            [&WIDE_PAIRING, &WIDE_LEAF_ONE],
+        ),
+    ]
 }
 
 // No steps, and leaves.
 fn lift_rows_of_leaves() -> Vec<Row> {
     vec![
         lifted(0, "", "", "", ""),
-        lifted(4, FIRST, "", "0-1, 2-3", "0-1, 2-3"),
-        lifted(4, FIRST, "", "1-2", "1-2"),
+        lifted(4, FIRST, "", "0-1, 2-3", "0-1 short, 2-3 short"),
+        lifted(4, FIRST, "", "1-2", "1-2 short"),
         lifted(4, FIRST, "", "", ""),
-        lifted(4, &all_pairs(4), "", "0-2, 1-3", "0-2, 1-3"),
-        lifted(4, FIRST, "leaf 0, leaf 2", "", "0-1, 2-3"),
-        lifted(4, FIRST, "leaf 3, leaf 1", "", "0-1, 2-3"),
-        lifted(4, FIRST, "leaf 0", "", "0-1"),
-        lifted(4, FIRST, "leaf 0", "2-3", "0-1, 2-3"),
+        lifted(4, &all_pairs(4), "", "0-2, 1-3", "0-2 short, 1-3 short"),
+        lifted(
+            4,
+            FIRST,
+            "leaf 0, leaf 2",
+            "",
+            "0-1 step 1 leaf, 2-3 step 2 leaf",
+        ),
+        lifted(
+            4,
+            FIRST,
+            "leaf 3, leaf 1",
+            "",
+            "0-1 step 2 leaf, 2-3 step 1 leaf",
+        ),
+        lifted(4, FIRST, "leaf 0", "", "0-1 step 1 leaf"),
+        lifted(4, FIRST, "leaf 0", "2-3", "0-1 step 1 leaf, 2-3 short"),
         // In slip order the leaves would put cell 1 in twice.
-        lifted(3, "0-1:3, 1-2:8", "leaf 0, leaf 1", "", "1-2"),
-        lifted(3, "0-1:3, 1-2:8", "leaf 0", "1-2", "1-2"),
-        lifted(3, "0-1:3, 1-2:8", "leaf 0", "", "0-1"),
-        lifted(2, "0-1:7", "leaf 0", "", "0-1"),
-        lifted(2, "0-1:7", "leaf 1", "", "0-1"),
+        lifted(3, "0-1:3, 1-2:8", "leaf 0, leaf 1", "", "1-2 step 2 leaf"),
+        lifted(3, "0-1:3, 1-2:8", "leaf 0", "1-2", "1-2 short"),
+        lifted(3, "0-1:3, 1-2:8", "leaf 0", "", "0-1 step 1 leaf"),
+        lifted(2, "0-1:7", "leaf 0", "", "0-1 step 1 leaf"),
+        lifted(2, "0-1:7", "leaf 1", "", "0-1 step 1 leaf"),
     ]
 }
 
 // Rings.
 fn lift_rows_of_rings() -> Vec<Row> {
     vec![
-        lifted(3, TRIANGLE, "ring 1, leaf 0", "", "0-1"),
-        lifted(3, TRIANGLE, "ring 1, leaf 1", "", "0-1"),
-        lifted(3, TRIANGLE, "ring 1", "0-1", "0-1"),
-        lifted(3, TRIANGLE, "ring 1", "", "1-2"),
-        lifted(4, SQUARE, "ring 1, leaf 0", "", "0-3, 1-2"),
-        lifted(4, SQUARE, "ring 1", "0-1", "0-3, 1-2"),
+        // The leaf puts 0-1 in, then the ring puts it in place of itself.
+        lifted(3, TRIANGLE, "ring 1, leaf 0", "", "0-1 step 1 ring"),
+        lifted(3, TRIANGLE, "ring 1, leaf 1", "", "0-1 step 1 ring"),
+        lifted(3, TRIANGLE, "ring 1", "0-1", "0-1 step 1 ring"),
+        lifted(3, TRIANGLE, "ring 1", "", "1-2 step 1 ring"),
+        lifted(
+            4,
+            SQUARE,
+            "ring 1, leaf 0",
+            "",
+            "0-3 step 1 ring, 1-2 step 1 ring",
+        ),
+        lifted(
+            4,
+            SQUARE,
+            "ring 1",
+            "0-1",
+            "0-3 step 1 ring, 1-2 step 1 ring",
+        ),
         // Of 1-2 and 2-3 the first one read is left out.
-        lifted(4, SQUARE, "ring 1", "", "2-3"),
-        lifted(3, EQUAL_TRIANGLE, "ring 1", "", "1-2"),
-        lifted(7, TWO_RINGS, "ring 2, ring 5", "", "2-3, 5-6"),
-        lifted(7, TWO_RINGS, "ring 5, ring 2", "", "2-3, 5-6"),
+        lifted(4, SQUARE, "ring 1", "", "2-3 step 1 ring"),
+        lifted(3, EQUAL_TRIANGLE, "ring 1", "", "1-2 step 1 ring"),
+        lifted(
+            7,
+            TWO_RINGS,
+            "ring 2, ring 5",
+            "",
+            "2-3 step 1 ring, 5-6 step 2 ring",
+        ),
+        lifted(
+            7,
+            TWO_RINGS,
+            "ring 5, ring 2",
+            "",
+            "2-3 step 2 ring, 5-6 step 1 ring",
+        ),
         // From u towards its lower neighbour in the ring, 5 and not 0.
-        lifted(8, RING_AT_FOUR, "ring 5", "4-5", "4-7, 5-6"),
-        lifted(8, RING_AT_FOUR, "ring 5", "0-4", "0-4, 6-7"),
-        lifted(8, RING_AT_FOUR, "ring 5", "", "6-7"),
+        lifted(
+            8,
+            RING_AT_FOUR,
+            "ring 5",
+            "4-5",
+            "4-7 step 1 ring, 5-6 step 1 ring",
+        ),
+        lifted(
+            8,
+            RING_AT_FOUR,
+            "ring 5",
+            "0-4",
+            "0-4 short, 6-7 step 1 ring",
+        ),
+        lifted(8, RING_AT_FOUR, "ring 5", "", "6-7 step 1 ring"),
         // From u towards 3, which is not z.
-        lifted(6, RING_TO_THREE, "ring 2", "0-2", "0-5, 2-3"),
-        lifted(6, RING_TO_THREE, "ring 2", "", "2-5"),
-        lifted(8, CHAIN_OF_RINGS, TAKEN_OF_RINGS, "", "0-2, 1-3, 4-5, 6-7"),
+        lifted(
+            6,
+            RING_TO_THREE,
+            "ring 2",
+            "0-2",
+            "0-5 step 1 ring, 2-3 step 1 ring",
+        ),
+        lifted(6, RING_TO_THREE, "ring 2", "", "2-5 step 1 ring"),
+        lifted(8, CHAIN_OF_RINGS, TAKEN_OF_RINGS, "", LIFTED_OF_RINGS),
         lifted(
             8,
             CHAIN_OF_RINGS,
             "ring 4, leaf 4, leaf 2, leaf 0",
             "3-7",
-            "0-1, 2-4, 3-7",
+            // 2-4 is from leaf 4, until the ring puts it in place of itself.
+            "0-1 step 4 leaf, 2-4 step 1 ring, 3-7 short",
         ),
     ]
 }
 
 const TAKEN_OF_RINGS: &str = "ring 4, leaf 4, leaf 2, leaf 0, leaf 1, ring 6";
+const LIFTED_OF_RINGS: &str = "0-2 step 3 leaf, 1-3 step 5 leaf, 4-5 step 1 ring, 6-7 step 6 ring";
 
 // Chains without a direct pair.
 fn lift_rows_of_chains() -> Vec<Row> {
     vec![
-        lifted(4, FIRST, "chain 1", "0-3", "0-1, 2-3"),
-        lifted(4, FIRST, "chain 1", "0-1", "0-1"),
-        lifted(4, FIRST, "chain 1", "1-3", "2-3"),
-        lifted(4, FIRST, "chain 1", "", "1-2"),
-        lifted(4, LARGEST, "chain 1", "0-3", "0-1, 2-3"),
-        lifted(4, ALL_ZERO, "chain 1", "", "1-2"),
-        lifted(4, ONE_ZERO, "chain 1", "0-3", "0-1, 2-3"),
-        lifted(4, ONE_ZERO, "chain 1", "1-3", "2-3"),
-        lifted(4, ONE_ZERO, "chain 1", "", "1-2"),
+        lifted(4, FIRST, "chain 1", "0-3", BOTH_ENDS),
+        // 0-1 is put in place of itself.
+        lifted(4, FIRST, "chain 1", "0-1", "0-1 step 1 chain"),
+        lifted(4, FIRST, "chain 1", "1-3", "2-3 step 1 chain"),
+        lifted(4, FIRST, "chain 1", "", "1-2 step 1 chain"),
+        lifted(4, LARGEST, "chain 1", "0-3", BOTH_ENDS),
+        lifted(4, ALL_ZERO, "chain 1", "", "1-2 step 1 chain"),
+        lifted(4, ONE_ZERO, "chain 1", "0-3", BOTH_ENDS),
+        lifted(4, ONE_ZERO, "chain 1", "1-3", "2-3 step 1 chain"),
+        lifted(4, ONE_ZERO, "chain 1", "", "1-2 step 1 chain"),
         // Cell z lies below both ends, u is 2.
-        lifted(4, LOW_INNER, "chain 0", "2-3", "0-2, 1-3"),
-        lifted(4, LOW_INNER, "chain 0", "0-2", "0-2"),
-        lifted(4, LOW_INNER, "chain 0", "0-3", "1-3"),
-        lifted(4, LOW_INNER, "chain 0", "", "0-1"),
+        lifted(
+            4,
+            LOW_INNER,
+            "chain 0",
+            "2-3",
+            "0-2 step 1 chain, 1-3 step 1 chain",
+        ),
+        lifted(4, LOW_INNER, "chain 0", "0-2", "0-2 step 1 chain"),
+        lifted(4, LOW_INNER, "chain 0", "0-3", "1-3 step 1 chain"),
+        lifted(4, LOW_INNER, "chain 0", "", "0-1 step 1 chain"),
         // From the lower end, not from z: 4-5 is read before 3-4.
-        lifted(6, CHAIN_FROM_FIVE, "chain 3", "", "3-4"),
-        lifted(6, CHAIN_FROM_FIVE, "chain 3", "0-1", "1-3, 4-5"),
-        lifted(6, CHAIN_FROM_FIVE, "chain 3", "0-3", "0-5, 3-4"),
-        lifted(6, CHAIN_FROM_FIVE, "chain 3", "1-3", "1-3, 4-5"),
+        lifted(6, CHAIN_FROM_FIVE, "chain 3", "", "3-4 step 1 chain"),
+        lifted(
+            6,
+            CHAIN_FROM_FIVE,
+            "chain 3",
+            "0-1",
+            "1-3 step 1 chain, 4-5 step 1 chain",
+        ),
+        lifted(
+            6,
+            CHAIN_FROM_FIVE,
+            "chain 3",
+            "0-3",
+            "0-5 step 1 chain, 3-4 step 1 chain",
+        ),
+        lifted(
+            6,
+            CHAIN_FROM_FIVE,
+            "chain 3",
+            "1-3",
+            "1-3 step 1 chain, 4-5 step 1 chain",
+        ),
         // What the chain made is a ring; that is undone first.
-        lifted(4, FIRST, "chain 1, ring 1", "0-1", "0-1, 2-3"),
-        lifted(4, FIRST, "chain 1, ring 1", "", "2-3"),
+        lifted(4, FIRST, "chain 1, ring 1", "0-1", BOTH_ENDS),
+        lifted(4, FIRST, "chain 1, ring 1", "", "2-3 step 1 chain"),
     ]
 }
+
+const BOTH_ENDS: &str = "0-1 step 1 chain, 2-3 step 1 chain";
 
 // Chains beside a direct pair.
 fn lift_rows_of_direct_pairs() -> Vec<Row> {
     vec![
-        lifted(6, HEAVIER, "chain 1", "0-3", "0-3, 1-2"),
-        lifted(6, EQUAL, "chain 1", "0-3", "0-1, 2-3"),
-        lifted(6, LIGHTER, "chain 1", "0-3", "0-1, 2-3"),
+        lifted(6, HEAVIER, "chain 1", "0-3", "0-3 short, 1-2 step 1 chain"),
+        lifted(6, EQUAL, "chain 1", "0-3", BOTH_ENDS),
+        lifted(6, LIGHTER, "chain 1", "0-3", BOTH_ENDS),
         // An entry of zero points is no direct pair, but the chain makes one of it.
-        lifted(4, ZERO_DIRECT, "chain 1", "0-3", "0-1, 2-3"),
-        lifted(4, ZERO_DIRECT, "chain 1, ring 1", "0-1", "0-1, 2-3"),
-        lifted(6, HEAVIER, "chain 1", "0-1", "0-1"),
-        lifted(6, HEAVIER, "chain 1", "0-1, 3-5", "0-1, 3-5"),
-        lifted(6, HEAVIER, "chain 1", "0-4, 1-3", "0-4, 2-3"),
-        lifted(6, HEAVIER, "chain 1", "0-4, 3-5", "0-4, 1-2, 3-5"),
-        lifted(6, HEAVIER, "chain 1", "0-4", "0-4, 1-2"),
-        lifted(6, HEAVIER, "chain 1", "", "1-2"),
+        lifted(4, ZERO_DIRECT, "chain 1", "0-3", BOTH_ENDS),
+        lifted(4, ZERO_DIRECT, "chain 1, ring 1", "0-1", BOTH_ENDS),
+        lifted(6, HEAVIER, "chain 1", "0-1", "0-1 step 1 chain"),
+        lifted(
+            6,
+            HEAVIER,
+            "chain 1",
+            "0-1, 3-5",
+            "0-1 step 1 chain, 3-5 short",
+        ),
+        lifted(
+            6,
+            HEAVIER,
+            "chain 1",
+            "0-4, 1-3",
+            "0-4 short, 2-3 step 1 chain",
+        ),
+        lifted(
+            6,
+            HEAVIER,
+            "chain 1",
+            "0-4, 3-5",
+            "0-4 short, 1-2 step 1 chain, 3-5 short",
+        ),
+        lifted(6, HEAVIER, "chain 1", "0-4", "0-4 short, 1-2 step 1 chain"),
+        lifted(6, HEAVIER, "chain 1", "", "1-2 step 1 chain"),
+        // The direct pair that is kept was put in by a ring, or by a leaf.
+        lifted(
+            6,
+            HEAVIER,
+            "chain 1, leaf 4, leaf 5, ring 1, leaf 0",
+            "",
+            "0-3 step 4 ring, 1-2 step 1 chain",
+        ),
+        lifted(
+            6,
+            LIGHT_CHAIN,
+            "chain 1, leaf 4, leaf 5, leaf 0",
+            "",
+            "0-3 step 4 leaf, 1-2 step 1 chain",
+        ),
+        // It is kept by both chains, or replaced by the one that is undone first.
+        lifted(
+            6,
+            TWO_CHAINS,
+            "chain 1, chain 4",
+            "0-3",
+            "0-3 short, 1-2 step 1 chain, 4-5 step 2 chain",
+        ),
+        lifted(
+            6,
+            TWO_EQUAL,
+            "chain 1, chain 4",
+            "0-3",
+            "0-4 step 2 chain, 1-2 step 1 chain, 3-5 step 2 chain",
+        ),
     ]
 }
 
@@ -348,14 +578,15 @@ fn lift_rows_of_size() -> Vec<Row> {
         Row::new(
             "a path of 1,024 cells with rising points",
             vec![rows::rising_path(), rows::leaves_of_path(), nothing],
-            1,
-            Ok(vec![couples(1024)]),
+            2,
+            // Leaf 1022 is undone first, and then every second one puts a pair in.
+            Ok(couples_from(1024, 512, |couple| leaf_step(2 * couple + 1))),
         ),
         Row::new(
             "512 pairs, no step",
             vec![list_of_couples(), slip(1024, ""), couples(1024)],
-            1,
-            Ok(vec![couples(1024)]),
+            2,
+            Ok(couples_from(1024, 512, |_| Origin::Short)),
         ),
         Row::new(
             "m = 4,096, no step",
@@ -364,8 +595,8 @@ fn lift_rows_of_size() -> Vec<Row> {
                 slip(1024, ""),
                 pairing(1024, "0-1023, 1-2"),
             ],
-            1,
-            Ok(vec![pairing(1024, "0-1023, 1-2")]),
+            2,
+            Ok(with_origins(1024, "0-1023 short, 1-2 short")),
         ),
     ]
 }
@@ -396,7 +627,7 @@ fn lift_rows_of_pairs() -> Vec<Row> {
 fn lift_rows_of_forms() -> Vec<Row> {
     let row = |name: &str, pairing: Vec<u8>| {
         let files = vec![FIRST_LIST.to_vec(), slip(4, ""), pairing];
-        Row::new(name, files, 1, Err(9))
+        Row::new(name, files, 2, Err(9))
     };
     let with_zero_bits = |header: u64, entry: u64| {
         let mut form = Form::pairing(4, vec![[0, 1, entry]]);
@@ -410,6 +641,7 @@ fn lift_rows_of_forms() -> Vec<Row> {
         row("a byte too many", [&FIRST_PAIRING[..], &[0]].concat()),
         row("another n", pairing(5, "0-1")),
         row("a slip for a pairing", rows::TWO_LEAVES.to_vec()),
+        row("an origin list for a pairing", FROM_LEAVES.to_vec()),
         row("a header zero bit", with_zero_bits(8, 0)),
         row("an entry zero bit", with_zero_bits(0, 1)),
         row("a cell not below n", pairing(4, "0-4")),
@@ -424,13 +656,15 @@ fn lift_rows_of_forms() -> Vec<Row> {
 // The order of the refusals.
 fn lift_rows_of_order() -> Vec<Row> {
     let row = |name: &str, list: Vec<u8>, slip: Vec<u8>, pairing: Vec<u8>, number| {
-        Row::new(name, vec![list, slip, pairing], 1, Err(number))
+        Row::new(name, vec![list, slip, pairing], 2, Err(number))
     };
     let first = || FIRST_LIST.to_vec();
-    let mut without_room = not_lifted(4, FIRST, "", "0-3", 10);
-    without_room.room = vec![0];
-    let mut too_long = not_lifted(4, FIRST, "leaf 0, leaf 2", "", 12);
-    too_long.room = vec![9];
+    let with_room = |mut row: Row, room: [usize; 2]| {
+        row.room = room.to_vec();
+        row
+    };
+    let refused = || not_lifted(4, FIRST, "", "0-3", 10);
+    let too_long = || not_lifted(4, FIRST, "leaf 0, leaf 2", "", 12);
     vec![
         row("6 before 7", list(4, "1-2:1, 0-1:1"), vec![], vec![], 6),
         row(
@@ -464,28 +698,34 @@ fn lift_rows_of_order() -> Vec<Row> {
             pairing(13, "0-1, 1-2"),
             10,
         ),
-        without_room,
-        too_long,
+        with_room(refused(), [0, 0]),
+        with_room(refused(), [PLENTY, 0]),
+        // The pairing has 10 bytes, its origin list 14.
+        with_room(too_long(), [9, 14]),
+        with_room(too_long(), [10, 13]),
+        with_room(too_long(), [9, 13]),
+        with_room(too_long(), [PLENTY, 0]),
+        with_room(too_long(), [0, PLENTY]),
     ]
 }
 
 // Pair
 
-/// The rows of pair: the output is a pairing of the list.
+/// The rows of pair: the outputs are a pairing of the list and its origin list.
 pub fn pair_rows() -> Vec<Row> {
     let mut rows = pair_rows_of_lists();
     rows.extend(pair_rows_of_size());
     rows.extend(pair_rows_of_refusals());
     rows.extend(rows::rows_of_buffers(
         vec![FIRST_LIST.to_vec()],
-        vec![FIRST_PAIRING.to_vec()],
+        vec![FIRST_PAIRING.to_vec(), FROM_LEAVES.to_vec()],
     ));
     rows
 }
 
-// Pairing a list gives a pairing of it.
+// Pairing a list gives a pairing of it with its origins.
 fn paired(n: u64, text: &str, held: &str) -> Row {
-    Row::new(text, vec![list(n, text)], 1, Ok(vec![pairing(n, held)]))
+    Row::new(text, vec![list(n, text)], 2, Ok(with_origins(n, held)))
 }
 
 // Lists of a few cells.
@@ -494,27 +734,34 @@ fn pair_rows_of_lists() -> Vec<Row> {
         Row::new(
             "the first list in bytes",
             vec![FIRST_LIST.to_vec()],
-            1,
-            Ok(vec![FIRST_PAIRING.to_vec()]),
+            2,
+            Ok(vec![FIRST_PAIRING.to_vec(), FROM_LEAVES.to_vec()]),
         ),
-        paired(4, LARGEST, "0-1, 2-3"),
-        paired(3, "0-1:3, 1-2:8", "1-2"),
-        paired(3, TRIANGLE, "0-1"),
-        paired(4, SQUARE, "0-3, 1-2"),
-        paired(3, EQUAL_TRIANGLE, "1-2"),
-        paired(7, TWO_RINGS, "2-3, 5-6"),
-        paired(8, CHAIN_OF_RINGS, "0-2, 1-3, 4-5, 6-7"),
-        paired(4, "0-2:5, 0-3:5, 1-2:9", "0-3, 1-2"),
-        paired(4, LOW_INNER, "0-2, 1-3"),
+        Row::new(
+            "the triangle in bytes",
+            vec![list(3, TRIANGLE)],
+            2,
+            Ok(vec![ZERO_ONE.to_vec(), FROM_RING_ONE.to_vec()]),
+        ),
+        paired(4, LARGEST, "0-1 step 1 leaf, 2-3 step 2 leaf"),
+        paired(3, "0-1:3, 1-2:8", "1-2 step 2 leaf"),
+        // Leaf 0 puts 0-1 in, then ring 1 puts it in place of itself.
+        paired(3, TRIANGLE, "0-1 step 1 ring"),
+        paired(4, SQUARE, "0-3 step 1 ring, 1-2 step 1 ring"),
+        paired(3, EQUAL_TRIANGLE, "1-2 step 1 ring"),
+        paired(7, TWO_RINGS, "2-3 step 1 ring, 5-6 step 2 ring"),
+        paired(8, CHAIN_OF_RINGS, LIFTED_OF_RINGS),
+        paired(4, "0-2:5, 0-3:5, 1-2:9", "0-3 step 2 leaf, 1-2 step 1 leaf"),
+        paired(4, LOW_INNER, "0-2 step 1 leaf, 1-3 step 2 leaf"),
         // Leaves 4 and 5, then a ring of which two are best at 19.
-        paired(6, HEAVIER, "0-3, 1-2"),
-        paired(6, EQUAL, "0-3, 1-2"),
-        paired(6, LIGHTER, "0-1, 2-3"),
-        paired(8, RING_AT_FOUR, "4-7, 5-6"),
-        paired(6, RING_TO_THREE, "0-5, 2-3"),
+        paired(6, HEAVIER, "0-3 step 3 ring, 1-2 step 3 ring"),
+        paired(6, EQUAL, "0-3 step 3 ring, 1-2 step 3 ring"),
+        paired(6, LIGHTER, "0-1 step 3 ring, 2-3 step 3 ring"),
+        paired(8, RING_AT_FOUR, "4-7 step 2 ring, 5-6 step 2 ring"),
+        paired(6, RING_TO_THREE, "0-5 step 1 ring, 2-3 step 1 ring"),
         // No step: the tie is that of solve.
-        paired(5, SINGLE_CELLS, "0-2, 1-3"),
-        paired(4, &all_pairs(4), "0-1, 2-3"),
+        paired(5, SINGLE_CELLS, "0-2 short, 1-3 short"),
+        paired(4, &all_pairs(4), "0-1 short, 2-3 short"),
         paired(0, "", ""),
         paired(5, "", ""),
         paired(2, "0-1:0", ""),
@@ -529,44 +776,47 @@ fn pair_rows_of_size() -> Vec<Row> {
         entries.sort();
         Form::list(13, entries).bytes()
     };
-    let row = |name: &str, list: Vec<u8>, pairing: Vec<u8>| {
-        Row::new(name, vec![list], 1, Ok(vec![pairing]))
+    let row = |name: &str, list: Vec<u8>, written: Vec<Vec<u8>>| {
+        Row::new(name, vec![list], 2, Ok(written))
     };
-    let six = "0-1, 2-3, 4-5, 6-7, 8-9, 10-11";
+    let six_of = |n| couples_from(n, 6, |_| Origin::Short);
+    let couples = couples_from(1024, 512, |couple| leaf_step(couple + 1));
+    let path = couples_from(1024, 512, |couple| leaf_step(2 * couple + 1));
     let zeros = Form::list(13, all_pairs_of(13, 0)).bytes();
     vec![
-        row("12 cells", list(12, &all_pairs(12)), couples(12)),
-        row("12 after a leaf", with_leaf, pairing(13, six)),
-        row("13 cells, zero points", zeros, pairing(13, "")),
-        row("512 pairs", list_of_couples(), couples(1024)),
-        row(
-            "a path of rising points",
-            rows::rising_path(),
-            couples(1024),
-        ),
+        row("12 cells", list(12, &all_pairs(12)), six_of(12)),
+        // The leaf is undone with its partner paired.
+        row("12 after a leaf", with_leaf, six_of(13)),
+        row("13 cells, zero points", zeros, with_origins(13, "")),
+        row("512 pairs", list_of_couples(), couples),
+        row("a path of rising points", rows::rising_path(), path),
         row(
             "0-1023:7",
             rows::WIDE_LIST.to_vec(),
-            pairing(1024, "0-1023"),
+            vec![WIDE_PAIRING.to_vec(), WIDE_LEAF_ONE.to_vec()],
         ),
     ]
 }
 
 // Lists that are refused.
 fn pair_rows_of_refusals() -> Vec<Row> {
-    let refused = |name: &str, list: Vec<u8>, number| Row::new(name, vec![list], 1, Err(number));
+    let refused = |name: &str, list: Vec<u8>, number| Row::new(name, vec![list], 2, Err(number));
     let mut without_room = refused("11 before 12", list(13, &all_pairs(13)), 11);
-    without_room.room = vec![0];
+    without_room.room = vec![0, 0];
+    let mut both_short = refused("both outputs short by one", FIRST_LIST.to_vec(), 12);
+    both_short.room = vec![9, 13];
     vec![
         refused("13 cells", list(13, &all_pairs(13)), 11),
         refused("m = 4,096", Form::list(1024, first_pairs(4096)).bytes(), 11),
         refused("m = 4,097", Form::list(1024, first_pairs(4097)).bytes(), 3),
         refused("no list", vec![], 2),
         refused("a pairing for a list", FIRST_PAIRING.to_vec(), 2),
+        refused("an origin list for a list", FROM_LEAVES.to_vec(), 2),
         refused("n = 1,025", list(1025, "0-1023:7"), 3),
         refused("a byte too many", [&FIRST_LIST[..], &[0]].concat(), 4),
         refused("n = 1,023 with cell 1,023", list(1023, "0-1023:7"), 5),
         refused("an entry twice", list(4, "0-1:1, 0-1:1"), 6),
         without_room,
+        both_short,
     ]
 }

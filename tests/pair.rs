@@ -1,4 +1,4 @@
-//! The comparison of pair: the call over the C interface and its file.
+//! The comparison of pair: the call over the C interface and its files.
 
 use crate::cases;
 use crate::inputs::{self, Random};
@@ -19,18 +19,25 @@ extern "C" {
         work_b_len: usize,
         pairing: *mut u8,
         pairing_room: usize,
+        origins: *mut u8,
+        origins_room: usize,
         pairing_len: *mut u64,
+        origins_len: *mut u64,
     ) -> u32;
 }
 
-/// Pairs a list (file 0); the output is a pairing of it.
+/// Pairs a list (file 0); the outputs are a pairing of it and its origin list.
 pub struct Pair;
 
 impl Call for Pair {
     const NAME: &'static str = "pair";
     const REFUSALS: &'static [u32] = &[1, 2, 3, 4, 5, 6, 11, 12];
-    const CASES: &'static [&'static [&'static str]] =
-        &[&cases::OF_SOLVING, &cases::OF_WAY_BACK, &cases::OF_ONE_FILE];
+    const CASES: &'static [&'static [&'static str]] = &[
+        &cases::OF_SOLVING,
+        &cases::OF_WAY_BACK,
+        &cases::OF_ORIGINS,
+        &cases::OF_TWO_FILES,
+    ];
 
     fn rows() -> Vec<Row> {
         lifting_rows::pair_rows()
@@ -52,6 +59,8 @@ impl Call for Pair {
         lengths: &mut [u64],
     ) -> u32 {
         let list = files.file(0);
+        let (pairing, origins) = outputs.split_at_mut(1);
+        let (pairing_len, origins_len) = lengths.split_at_mut(2);
         // The pointers and lengths are those of slices that live through the call.
         unsafe {
             cells_pair(
@@ -61,9 +70,12 @@ impl Call for Pair {
                 work_a.len(),
                 work_b.as_mut_ptr(),
                 work_b.len(),
-                outputs[0].as_mut_ptr(),
-                outputs[0].len(),
-                &mut lengths[1],
+                pairing[0].as_mut_ptr(),
+                pairing[0].len(),
+                origins[0].as_mut_ptr(),
+                origins[0].len(),
+                &mut pairing_len[1],
+                &mut origins_len[1],
             )
         }
     }

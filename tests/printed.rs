@@ -1,6 +1,5 @@
 //! What the program prints, by the independent implementation.
 
-use crate::lifting;
 use crate::reference::{Input, WORK_WORDS};
 
 /// The most bytes that the program reads.
@@ -22,14 +21,13 @@ pub fn printed(given: &[u8]) -> String {
 // in the short list, each pair with its cells and list points, and the total.
 fn lines(input: &Input) -> String {
     let points = input.entries();
-    let lifted = lifting::lift(&input.left.taken, input.short_pairing.clone());
     let mut lines = vec![
         format!("steps {}", input.steps.len()),
         format!("carried {}", input.left.carried),
         format!("short {}", input.left.graph.pairs().len()),
     ];
     let mut total = 0;
-    for (a, b) in lifted.pairs() {
+    for (a, b) in input.lifted().held.pairs() {
         let points = points[&(a, b)];
         total += points;
         lines.push(format!("pair {a} {b} {points}"));

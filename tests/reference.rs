@@ -9,7 +9,7 @@
 use std::collections::{BTreeMap, BTreeSet};
 
 use crate::graph::{self, Graph, Left, Named, CHAIN, LEAF};
-use crate::lifting::{self, Held};
+use crate::lifting::{self, Held, Lifted, Origin};
 
 pub const WORK_WORDS: usize = 8192;
 pub const MOST_CELLS: u64 = 1024;
@@ -21,6 +21,7 @@ pub const LIST_KIND: u64 = 1;
 pub const SHORT_LIST_KIND: u64 = 2;
 pub const SLIP_KIND: u64 = 3;
 pub const PAIRING_KIND: u64 = 4;
+pub const ORIGINS_KIND: u64 = 5;
 
 /// The bits of the header's fields: kind, cells n, count m, zero bits.
 pub const HEADER_BITS: [usize; 4] = [4, 11, 13, 4];
@@ -33,6 +34,8 @@ pub const SHORT_LIST_BITS: [usize; 3] = [10, 10, 44];
 pub const SLIP_BITS: [usize; 2] = [6, 10];
 /// The bits of a pairing's entry: cell a, cell b, zero bits.
 pub const PAIRING_BITS: [usize; 3] = [10, 10, 4];
+/// The bits of an origin list's entry: cell a, cell b, step, rule, zero bits.
+pub const ORIGINS_BITS: [usize; 5] = [10, 10, 11, 3, 6];
 
 const HEADER_BYTES: usize = 4;
 const LIST_ENTRY_BYTES: u64 = 5;
@@ -224,6 +227,24 @@ pub fn pairing_file(n: u64, pairs: &[Pair]) -> Vec<u8> {
         pack.fields([a, b, 0], PAIRING_BITS);
     }
     pack.bytes()
+}
+
+/// The bytes of an origin list for a list of n cells: the pairs of a pairing in
+/// order, each with the step and rule it came from.
+pub fn origins_file(n: u64, pairs: &[(Pair, Origin)]) -> Vec<u8> {
+    let mut pack = Pack::default();
+    pack.fields([ORIGINS_KIND, n, pairs.len() as u64, 0], HEADER_BITS);
+    for &((a, b), origin) in pairs {
+        let [step, rule] = origin.step_and_rule();
+        pack.fields([a, b, step, rule, 0], ORIGINS_BITS);
+    }
+    pack.bytes()
+}
+
+/// The files of a lifted pairing for a list of n cells: the pairing, then its origin list.
+pub fn lifted_files(n: u64, pairs: &[(Pair, Origin)]) -> Vec<Vec<u8>> {
+    let cells: Vec<Pair> = pairs.iter().map(|&(pair, _)| pair).collect();
+    vec![pairing_file(n, &cells), origins_file(n, pairs)]
 }
 
 /// One entry of a pairing.
@@ -516,22 +537,22 @@ impl Input {
         input
     }
 
-    /// What lift is given; it writes a pairing of the list.
+    /// What lift is given; it writes a pairing of the list and its origin list.
     pub fn lift(list: &[u8], slip: &[u8], pairing: &[u8]) -> Input {
         let mut input = Input::over_slip(list, slip);
         let pairing = Pairing::read(pairing);
         input.graph = input.left.graph.pairs().into_iter().collect();
         input.short_pairing = pairing_of(&pairing, &input.graph);
         input.pairing = Some(pairing);
-        input.files = vec![input.lifted()];
+        input.files = lifted_files(input.n(), &input.lifted().pairs());
         input
     }
 
-    /// What pair is given; it reduces, solves and lifts, and writes a pairing of the list.
+    /// What pair is given; it reduces, solves and lifts, and writes what lift does.
     pub fn pair(list: &[u8]) -> Input {
         let mut input = Input::over_reduced(list);
         input.solve_left();
-        input.files = vec![input.lifted()];
+        input.files = lifted_files(input.n(), &input.lifted().pairs());
         input
     }
 
@@ -544,10 +565,9 @@ impl Input {
         }
     }
 
-    // The pairing of the list that the way back makes of that of what is left.
-    fn lifted(&self) -> Vec<u8> {
-        let lifted = lifting::lift(&self.left.taken, self.short_pairing.clone());
-        pairing_file(self.n(), &lifted.pairs())
+    /// The pairing of the list that the way back makes of that of what is left.
+    pub fn lifted(&self) -> Lifted {
+        lifting::lift(&self.left.taken, self.short_pairing.clone())
     }
 
     /// The list's working graph.

@@ -61,19 +61,23 @@ pub fn list(n: u64, text: &str) -> Vec<u8> {
 // Steps, written as rule and cell and separated by commas.
 fn steps(text: &str) -> Vec<Named> {
     let step = |word: &str| {
-        let (rule, cell) = word.trim().split_once(' ').expect("rule and cell");
-        let rule = match rule {
-            "leaf" => LEAF,
-            "ring" => RING,
-            "chain" => CHAIN,
-            _ => rule.parse().expect("a rule"),
-        };
-        Named::new(rule, cell.parse().expect("a cell"))
+        let (name, cell) = word.trim().split_once(' ').expect("rule and cell");
+        Named::new(rule(name), cell.parse().expect("a cell"))
     };
     text.split(',')
         .filter(|word| !word.is_empty())
         .map(step)
         .collect()
+}
+
+/// The rule of this name, or of this number.
+pub fn rule(name: &str) -> u64 {
+    match name {
+        "leaf" => LEAF,
+        "ring" => RING,
+        "chain" => CHAIN,
+        _ => name.parse().expect("a rule"),
+    }
 }
 
 /// The slip of these steps.

@@ -1,8 +1,8 @@
 #!/usr/bin/env python3
-"""Store lists and pairings as text: writes, shows and draws the files of the formats.
+"""Store lists, pairings and origin lists as text: writes, shows and draws the files of the formats.
 
     python3 tools/cells.py list < text > store.bin     a store list (kind 1) from text
-    python3 tools/cells.py show < file                 any file of kinds 1 to 4 as text
+    python3 tools/cells.py show < file                 any file of kinds 1 to 5 as text
     python3 tools/cells.py draw store.bin [pairing]    a store list as a drawing for Graphviz
 
 Text of a list: one pair on each line, written a-b:points, as 0-1:10. The cells may stand either way round and
@@ -14,8 +14,9 @@ follows a # do not count. A pair of a cell with itself, a pair given twice, cell
 'show' writes a store list so that 'list' reads it back. Of a damaged file it says what is wrong, with the
 number of the refusal that the calls give it where they read such files, and shows nothing.
 
-'draw' takes as the pairing what the program 'pairing' printed, or a pairing file (kind 4), and draws its pairs
-thick. Cells without an entry are left out. The drawing is for Graphviz: ... | dot -Tsvg > store.svg
+'draw' takes as the pairing what the program 'pairing' printed, a pairing file (kind 4) or an origin list (kind 5),
+and draws its pairs thick. Of an origin list the pairs from a step are dashed, with the step and its rule beside
+the points. Cells without an entry are left out. The drawing is for Graphviz: ... | dot -Tsvg > store.svg
 
 Whatever is wrong is said on standard error, with the line or byte; then the exit status is 1 and nothing is
 written.
@@ -28,11 +29,20 @@ MOST_CELLS = 1024
 MOST_ENTRIES = 4096
 LARGEST_POINTS = 1048575
 HEADER_BYTES = 4
-ENTRY_BYTES = {1: 5, 2: 8, 3: 2, 4: 3}
+ENTRY_BYTES = {1: 5, 2: 8, 3: 2, 4: 3, 5: 5}
 CARRIED_BYTES = 8
-STORE_LIST, SHORT_LIST, SLIP, PAIRING = 1, 2, 3, 4
-KIND_NAMES = {STORE_LIST: "store list", SHORT_LIST: "short list", SLIP: "slip", PAIRING: "pairing"}
+STORE_LIST, SHORT_LIST, SLIP, PAIRING, ORIGIN_LIST = 1, 2, 3, 4, 5
+KIND_NAMES = {
+    STORE_LIST: "store list",
+    SHORT_LIST: "short list",
+    SLIP: "slip",
+    PAIRING: "pairing",
+    ORIGIN_LIST: "origin list",
+}
 RULES = {1: "leaf", 2: "ring", 3: "chain"}
+# The step and rule of a pair that no step put in, and the words that tell the two origins apart in a drawing.
+FROM_SHORT_LIST = (0, 0)
+LEGEND = "solid: from the short list, dashed: from a step"
 
 # Numbers of more digits than these are of no form.
 NUMBER = r"(\d{1,100})"
@@ -156,7 +166,7 @@ def read_file(data):
     """The kind, the cells, the carried points (short list only) and the entries of a file that is as it should be."""
     kind, cells, count, zero_bits = read_header(data)
     if kind not in KIND_NAMES:
-        raise Wrong(f"byte 0: kind {kind} is none of 1 to 4 (refusals 2, 7, 9)")
+        raise Wrong(f"byte 0: kind {kind} is none of 1 to 5 (refusals 2, 7, 9)")
     check_header(kind, cells, count, zero_bits)
     check_length(data, kind, count)
     carried = int.from_bytes(data[HEADER_BYTES : first_byte(kind, 0)], "big") if kind == SHORT_LIST else None
@@ -239,13 +249,27 @@ def check_pairing(cells, numbers, entries):
     check_once(entries)
 
 
-def check_once(pairs):
+def check_once(pairs, kind=PAIRING):
     """Refuses pairs of which two have a cell in common."""
     seen = set()
     for a, b, *_ in pairs:
         if seen & {a, b}:
-            raise Wrong(f"cell {min(seen & {a, b})} stands twice in the pairing (refusal 10)")
+            number = " (refusal 10)" if kind == PAIRING else ""
+            raise Wrong(f"cell {min(seen & {a, b})} stands twice in the {KIND_NAMES[kind]}{number}")
         seen |= {a, b}
+
+
+def check_origin_list(cells, numbers, entries):
+    """What an origin list is; no call reads one, so that there is no number."""
+    for place, (number, (a, b, step, rule)) in enumerate(zip(numbers, entries)):
+        if number & 0x3F:
+            raise Wrong(f"byte {first_byte(ORIGIN_LIST, place) + 4}: a zero bit of the origin list is set")
+        if (step, rule) != FROM_SHORT_LIST and (step == 0 or rule not in RULES):
+            where = f"byte {first_byte(ORIGIN_LIST, place)}: the origin list's pair {a}-{b}"
+            raise Wrong(f"{where} has step {step} with rule {rule}")
+    check_cells(ORIGIN_LIST, cells, entries)
+    check_ascending(ORIGIN_LIST, [entry[0] for entry in entries])
+    check_once(entries, ORIGIN_LIST)
 
 
 FIELDS = {
@@ -253,12 +277,14 @@ FIELDS = {
     SHORT_LIST: lambda number: (number >> 54, number >> 44 & 0x3FF, number & (1 << 44) - 1),
     SLIP: lambda number: (number >> 10, number & 0x3FF),
     PAIRING: lambda number: (number >> 14, number >> 4 & 0x3FF),
+    ORIGIN_LIST: lambda number: (number >> 30, number >> 20 & 0x3FF, number >> 9 & 0x7FF, number >> 6 & 0x7),
 }
 CHECKS = {
     STORE_LIST: check_store_list,
     SHORT_LIST: check_short_list,
     SLIP: check_slip,
     PAIRING: check_pairing,
+    ORIGIN_LIST: check_origin_list,
 }
 
 
@@ -281,7 +307,15 @@ def entry_text(kind, entry):
         return f"{RULES[entry[0]]} {entry[1]}"
     if kind == PAIRING:
         return f"{entry[0]}-{entry[1]}"
+    if kind == ORIGIN_LIST:
+        return f"{entry[0]}-{entry[1]} {origin_text(entry[2:])}"
     return f"{entry[0]}-{entry[1]}:{entry[2]}"
+
+
+def origin_text(origin):
+    """The text of a pair's step and rule."""
+    step, rule = origin
+    return "short" if origin == FROM_SHORT_LIST else f"step {step} {RULES[rule]}"
 
 
 # Drawing
@@ -326,43 +360,51 @@ def check_entries(pairs, points):
 
 
 def read_pairing(data, cells, points):
-    """The set of pairs of a pairing file, or of what the program printed, for a list with these points."""
-    if data[:1] and data[0] >> 4 in (STORE_LIST, PAIRING):
+    """Each pair of a pairing file, an origin list, or what the program printed, for a list with these points.
+
+    The pairs of an origin list have their step and rule, the others have none.
+    """
+    if data[:1] and data[0] >> 4 in (STORE_LIST, PAIRING, ORIGIN_LIST):
         pairs = pairs_of_file(data, cells)
         check_entries(pairs, points)
-    else:
-        pairs, total = parse_printed(text_of(data))
-        check_printed(pairs, total, points)
-    return {(a, b) for a, b, *_ in pairs}
+        return {(a, b): tuple(origin) or None for a, b, *origin in pairs}
+    pairs, total = parse_printed(text_of(data))
+    check_printed(pairs, total, points)
+    return {(a, b): None for a, b, _ in pairs}
 
 
 def pairs_of_file(data, cells):
-    """The pairs of a pairing file for a list of so many cells; no printed text starts as a file does."""
+    """The entries of a pairing or origin list for a list of so many cells; no printed text starts as a file does."""
     kind, pairing_cells, _, pairs = read_file(data)
-    if kind != PAIRING:
-        raise Wrong(f"the second file is a {KIND_NAMES[kind]}, not a pairing (refusal 9)")
+    if kind not in (PAIRING, ORIGIN_LIST):
+        raise Wrong(f"the second file is a {KIND_NAMES[kind]}, not a pairing or an origin list (refusal 9)")
     if pairing_cells != cells:
-        raise Wrong(f"the pairing has n = {pairing_cells}, but the list n = {cells} (refusal 9)")
+        raise Wrong(f"the {KIND_NAMES[kind]} has n = {pairing_cells}, but the list n = {cells}{refusal(kind, 9)}")
     return pairs
 
 
 def draw(list_data, pairing_data=None):
-    """The drawing of a store list, with the pairs of a pairing thick."""
+    """The drawing of a store list, with the pairs of a pairing thick, and those from a step dashed."""
     kind, cells, _, entries = read_file(list_data)
     if kind != STORE_LIST:
-        raise Wrong(f"the file is a {KIND_NAMES[kind]}, not a store list (refusal 2)")
+        article = "an" if kind == ORIGIN_LIST else "a"
+        raise Wrong(f"the file is {article} {KIND_NAMES[kind]}, not a store list (refusal 2)")
     points = {(a, b): value for a, b, value in entries}
-    held = read_pairing(pairing_data, cells, points) if pairing_data is not None else set()
+    held = read_pairing(pairing_data, cells, points) if pairing_data is not None else {}
     lines = ["graph store {", "  node [shape=circle];"]
+    lines += [f'  label="{LEGEND}";'] if any(held.values()) else []
     lines += [f"  {cell} [style=filled, fillcolor=lightgrey];" for cell in sorted(sum(held, ()))]
-    lines += ["  " + edge_text(a, b, value, (a, b) in held) for a, b, value in entries]
+    lines += ["  " + edge_text(a, b, value, (a, b) in held, held.get((a, b))) for a, b, value in entries]
     return "\n".join(lines + ["}"]) + "\n"
 
 
-def edge_text(a, b, points, is_held):
-    """The line of an entry in the drawing."""
-    thick = ", style=bold, penwidth=4" if is_held else ""
-    return f'{a} -- {b} [label="{points}"{thick}];'
+def edge_text(a, b, points, is_held, origin=None):
+    """The line of an entry in the drawing, of a pair that is held with its step and rule, where they are known."""
+    from_step = origin not in (None, FROM_SHORT_LIST)
+    style = "dashed" if from_step else "bold"
+    words = rf"{points}\n{origin_text(origin)}" if from_step else points
+    thick = f", style={style}, penwidth=4" if is_held else ""
+    return f'{a} -- {b} [label="{words}"{thick}];'
 
 
 # The command

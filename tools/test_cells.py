@@ -21,12 +21,22 @@ FIRST_LIST = bytes.fromhex("10080030 000010000A 0040200001 008030000A")
 FIRST_PAIRING = bytes.fromhex("40080020 000010 008030")
 FIRST_SLIP = bytes.fromhex("30080020 0400 0402")
 FIRST_SHORT = bytes.fromhex("20080030 0000000000000001 0000100000000009 0000300000000013 0040300000000009")
+# 0-1 from step 1 and 2-3 from step 2, both leaf; the worked chain with a direct pair 0-3:25 that is kept.
+FIRST_ORIGINS = bytes.fromhex("50080020 0000100240 0080300440")
+DIRECT_TEXT = "0-1:10\n0-3:25\n0-4:1\n1-2:1\n2-3:10\n3-5:1\n"
+DIRECT_PAIRING = bytes.fromhex("400C0020 000030 004020")
+DIRECT_ORIGINS = bytes.fromhex("500C0020 0000300000 00402002C0")
 FIRST_PRINTED = "steps 2\ncarried 20\nshort 0\npair 0 1 10\npair 2 3 10\ntotal 20\n"
 
 
 def header(kind, n, m, zero_bits=0):
     """A file's first four bytes."""
     return (kind << 28 | n << 17 | m << 4 | zero_bits).to_bytes(4, "big")
+
+
+def from_step(a, b, step, rule):
+    """An origin list's entry."""
+    return (a << 30 | b << 20 | step << 9 | rule << 6).to_bytes(5, "big")
 
 
 def command(words, given=b""):
@@ -155,16 +165,26 @@ class FilesToText(Refusing):
     def test_pairing(self):
         self.assertEqual(cells.show(FIRST_PAIRING), "# pairing\nn 4\n0-1\n2-3\n")
 
+    def test_origin_list(self):
+        self.assertEqual(cells.show(FIRST_ORIGINS), "# origin list\nn 4\n0-1 step 1 leaf\n2-3 step 2 leaf\n")
+        self.assertEqual(cells.show(DIRECT_ORIGINS), "# origin list\nn 6\n0-3 short\n1-2 step 1 chain\n")
+        self.assertEqual(cells.show(header(5, 3, 1) + bytes.fromhex("0000100280")).splitlines()[2], "0-1 step 1 ring")
+        self.assertEqual(cells.show(header(5, 0, 0)), "# origin list\nn 0\n")
+        self.assertEqual([cells.origin_text(origin) for origin in ((0, 0), (1023, 2))], ["short", "step 1023 ring"])
+
     def test_largest_fields(self):
         short = header(2, 1024, 1) + b"\xff" * 8 + (1022 << 54 | 1023 << 44 | (1 << 44) - 1).to_bytes(8, "big")
         self.assertEqual(cells.read_file(short), (2, 1024, 2**64 - 1, [(1022, 1023, 2**44 - 1)]))
+        origins = header(5, 1024, 1) + bytes.fromhex("FFBFFFFEC0")
+        self.assertEqual(cells.read_file(origins), (5, 1024, None, [(1022, 1023, 2047, 3)]))
 
     def test_parts(self):
         self.assertEqual(cells.read_header(FIRST_LIST), (1, 4, 3, 0))
-        self.assertEqual([cells.first_byte(kind, 2) for kind in (1, 2, 3, 4)], [14, 28, 8, 10])
+        self.assertEqual([cells.first_byte(kind, 2) for kind in (1, 2, 3, 4, 5)], [14, 28, 8, 10, 14])
         self.assertEqual(cells.records(FIRST_SLIP, cells.SLIP, 2), [0x0400, 0x0402])
         self.assertEqual(cells.refusal(cells.STORE_LIST, 5), " (refusal 5)")
         self.assertEqual(cells.refusal(cells.SHORT_LIST, 5), "")
+        self.assertEqual(cells.refusal(cells.ORIGIN_LIST, 5), "")
 
     def test_round_trips(self):
         rng = random.Random(1)
@@ -188,8 +208,8 @@ class DamagedFiles(Refusing):
         self.shown_wrong(
             (b"", "0 bytes"),
             (b"\x10\x08\x00", "3 bytes"),
-            (header(0, 4, 0), "byte 0: kind 0 is none of 1 to 4"),
-            (header(5, 4, 0), "kind 5"),
+            (header(0, 4, 0), "byte 0: kind 0 is none of 1 to 5"),
+            (header(6, 4, 0), "kind 6"),
         )
 
     def test_store_lists(self):
@@ -238,10 +258,26 @@ class DamagedFiles(Refusing):
             (FIRST_SHORT[:12] + FIRST_SHORT[20:28] + FIRST_SHORT[12:20] + FIRST_SHORT[28:], "byte 20: .*entry 2"),
         )
 
+    def test_origin_lists(self):
+        one, other = FIRST_ORIGINS[4:9], FIRST_ORIGINS[9:]
+        self.shown_wrong(
+            (header(5, 4, 0, 1), "byte 3: a zero bit of the origin list's header is set$"),
+            (header(5, 1025, 0), "n = 1025, above 1024$"),
+            (FIRST_ORIGINS[:-1], "13 bytes, but m = 2 makes 14$"),
+            (header(5, 4, 1) + one[:4] + b"\x41", "byte 8: a zero bit of the origin list is set$"),
+            (header(5, 4, 2) + one + other[:4] + b"\x60", "byte 13: a zero bit"),
+            (header(5, 4, 1) + from_step(0, 1, 0, 1), "byte 4: .*0-1 has step 0 with rule 1$"),
+            (header(5, 4, 1) + from_step(0, 1, 1, 0), "step 1 with rule 0$"),
+            (header(5, 4, 2) + one + from_step(2, 3, 1, 4), "byte 9: .*2-3 has step 1 with rule 4$"),
+            (header(5, 3, 2) + one + other, "byte 9: .*2-3 is not a < b < n = 3$"),
+            (header(5, 4, 2) + other + one, "byte 9: the origin list's entry 2 is not above the one before$"),
+            (header(5, 4, 2) + one + from_step(1, 2, 1, 1), "cell 1 stands twice in the origin list$"),
+        )
+
     def test_any_bytes_are_shown_or_refused(self):
         rng = random.Random(2)
         for _ in range(2000):
-            data = bytearray(rng.choice([FIRST_LIST, FIRST_SHORT, FIRST_SLIP, FIRST_PAIRING]))
+            data = bytearray(rng.choice([FIRST_LIST, FIRST_SHORT, FIRST_SLIP, FIRST_PAIRING, FIRST_ORIGINS]))
             for _ in range(rng.randint(0, 3)):
                 data[rng.randrange(len(data))] ^= 1 << rng.randrange(8)
             try:
@@ -265,19 +301,40 @@ class Drawing(Refusing):
         self.assertIn('1 -- 2 [label="1"];', drawing)
         self.assertIn("  3 [style=filled", drawing)
 
+    def test_origins_are_told_apart(self):
+        direct_list = cells.store_list(*cells.parse_list(DIRECT_TEXT))
+        drawing = cells.draw(direct_list, DIRECT_ORIGINS)
+        self.assertIn('0 -- 3 [label="25", style=bold, penwidth=4];', drawing)
+        self.assertIn(r'1 -- 2 [label="1\nstep 1 chain", style=dashed, penwidth=4];', drawing)
+        self.assertIn('0 -- 1 [label="10"];', drawing)
+        self.assertIn(f'\n  label="{cells.LEGEND}";\n', drawing)
+        # Without the legend, and with every pair from the short list, it is the drawing of the pairing.
+        thick = cells.draw(direct_list, DIRECT_PAIRING)
+        self.assertNotIn(cells.LEGEND, thick)
+        short = DIRECT_ORIGINS[:12] + b"\0\0"
+        self.assertEqual(cells.draw(direct_list, short).replace(f'  label="{cells.LEGEND}";\n', ""), thick)
+        self.assertEqual(cells.draw(direct_list, header(5, 6, 0)), cells.draw(direct_list))
+
     def test_parts(self):
         self.assertEqual(cells.edge_text(1, 2, 3, False), '1 -- 2 [label="3"];')
+        self.assertEqual(cells.edge_text(1, 2, 3, True), '1 -- 2 [label="3", style=bold, penwidth=4];')
+        self.assertEqual(cells.edge_text(1, 2, 3, True, (0, 0)), '1 -- 2 [label="3", style=bold, penwidth=4];')
+        dashed = r'1 -- 2 [label="3\nstep 4 ring", style=dashed, penwidth=4];'
+        self.assertEqual(cells.edge_text(1, 2, 3, True, (4, 2)), dashed)
         self.assertEqual(cells.parse_printed(FIRST_PRINTED), ([(0, 1, 10), (2, 3, 10)], 20))
         self.assertEqual(cells.parse_printed(""), ([], None))
         points = {(a, b): value for a, b, value in FIRST_ENTRIES}
-        self.assertEqual(cells.read_pairing(FIRST_PAIRING, 4, points), {(0, 1), (2, 3)})
+        self.assertEqual(cells.read_pairing(FIRST_PAIRING, 4, points), {(0, 1): None, (2, 3): None})
+        self.assertEqual(cells.read_pairing(FIRST_ORIGINS, 4, points), {(0, 1): (1, 1), (2, 3): (2, 1)})
         self.assertEqual(cells.pairs_of_file(FIRST_PAIRING, 4), [(0, 1), (2, 3)])
+        self.assertEqual(cells.pairs_of_file(FIRST_ORIGINS, 4), [(0, 1, 1, 1), (2, 3, 2, 1)])
         cells.check_entries([(0, 1)], points)
         cells.check_once([(0, 1), (2, 3)])
         cells.check_printed([(1, 2, 1)], 1, points)
 
     def test_not_a_store_list(self):
         self.wrong("is a slip, not a store list", cells.draw, FIRST_SLIP)
+        self.wrong("is an origin list, not a store list", cells.draw, FIRST_ORIGINS)
         self.wrong("refusal 4", cells.draw, FIRST_LIST[:-1])
 
     def test_pairings_that_are_refused(self):
@@ -287,6 +344,9 @@ class Drawing(Refusing):
             (five_cells, "n = 5, but the list n = 4"),
             (no_entry, "0-3 is no entry of the list"),
             (FIRST_PAIRING[:-1], "refusal 9"),
+            (header(5, 5, 2) + FIRST_ORIGINS[4:], "the origin list has n = 5, but the list n = 4$"),
+            (header(5, 4, 1) + (3 << 20).to_bytes(5, "big"), "0-3 is no entry of the list"),
+            (FIRST_ORIGINS[:-1], "13 bytes"),
             (b"refused 11\n", "line 1: the program refused the list with 11"),
             (b"steps 2\nhello\n", "line 2: 'hello' is no line"),
             (b"pair 0 3 10\ntotal 10\n", "0-3 is no entry"),
@@ -372,6 +432,21 @@ class Samples(Refusing):
         for name in ("first", "triangle", "ring-of-four", "workshop"):
             _, entries = cells.parse_list(sample(name + ".txt").decode())
             self.assertEqual(self.rows()[name][5], str(heaviest(entries)), name)
+
+    def test_origin_lists(self):
+        """Those of the small lists are worked out by hand; the pairs of each have the total of the table."""
+        self.assertEqual(cells.show(sample("first.origins")), "# origin list\nn 4\n0-1 step 1 leaf\n2-3 step 2 leaf\n")
+        self.assertEqual(cells.show(sample("triangle.origins")), "# origin list\nn 3\n0-1 step 1 ring\n")
+        for name in ("first", "triangle", "workshop"):
+            _, entries = cells.parse_list(sample(name + ".txt").decode())
+            points = {(a, b): value for a, b, value in entries}
+            _, _, _, pairs = cells.read_file(sample(name + ".origins"))
+            self.assertEqual(self.rows()[name][5], str(sum(points[a, b] for a, b, *_ in pairs)), name)
+            self.assertLessEqual(max(step for _, _, step, _ in pairs), int(self.rows()[name][2]), name)
+
+    def test_the_short_pairing_of_the_workshop_keeps_step_0(self):
+        _, _, _, pairs = cells.read_file(sample("workshop.origins"))
+        self.assertEqual([(a, b) for a, b, step, rule in pairs if (step, rule) == (0, 0)], [(4, 11), (17, 23)])
 
     def test_every_list_is_drawn(self):
         for name in self.rows():

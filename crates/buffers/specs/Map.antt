@@ -3,12 +3,16 @@
 use Prim.Native.Nat.{ℕ}
 
 -- First buffer: the weights of the slots stand from 0 on, and from here on the words of their cells. While a set of
--- cells is solved the table of its sets stands there.
+-- cells is solved the table of its sets stands there; after the way back, behind the pairs, their records of the origin
+-- list.
 abbrev pub atCells : ℕ
 atCells = 4096
 
 abbrev pub atSets : ℕ
 atSets = 4096
+
+abbrev pub atOrigins : ℕ
+atOrigins = 4096
 
 -- Second buffer: the trail stands from 0 on in so many words; then for each cell the sum of its slots and its last
 -- slot, the steps as words of a slip, and the table of partners.
@@ -33,6 +37,10 @@ atPoints = 7168
 
 abbrev pub atPlaces : ℕ
 atPlaces = 7312
+
+-- A word of the table is a partner below the stamp of where the pair came from: one of the stamp.
+abbrev pub partnerField : ℕ
+partnerField = 2048
 
 -- A row word is a cell above the 54 bits of the points of a pair: one of the cell.
 abbrev pub unit : ℕ

@@ -4,10 +4,13 @@
 pub const WORDS: usize = 8192;
 
 // First buffer: the weights of the slots stand from 0 on, and from here on the words of their cells. While a set of
-// cells is solved the table of its sets stands there.
+// cells is solved the table of its sets stands there; after the way back, behind the pairs, their records of the origin
+// list.
 pub const CELL_WORDS: usize = 4096;
 
 pub const SETS: usize = 4096;
+
+pub const ORIGIN_WORDS: usize = 4096;
 
 // Second buffer: the trail stands from 0 on in so many words; then for each cell the sum of its slots and its last
 // slot, the steps as words of a slip, and the table of partners.
@@ -32,6 +35,9 @@ pub const POINTS_UNIT: u64 = 18014398509481984;
 // Below this is a cell in every word: in that of a slot the lower cell, and above it the higher one; in that of a step
 // the cell below the rule.
 pub const CELL_FIELD: u64 = 1024;
+
+// Below this is the partner in a word of the table; above it the stamp of where the pair came from.
+pub const PARTNER_FIELD: u64 = 2048;
 
 // One of the first, and of the second, cell of a pair in the word of a pairing.
 pub const PAIR_A: u64 = 16384;

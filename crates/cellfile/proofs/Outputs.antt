@@ -14,9 +14,11 @@ use Rattle.cellfile.specs.Bytes.{bytes}
 use Rattle.cellfile.specs.Fields.{size, packed, fields, writeRecords}
 use Rattle.matching.specs.Listed.{Entry}
 use Rattle.buffers.specs.Map.{unit, atCells}
-use Rattle.cellfile.specs.Files.{Layout, header, shortList, writeFile, onto, asFields}
+use Rattle.cellfile.specs.Files.{Layout, header, shortList, slip, pairing, originList, fileLength}
+use Rattle.cellfile.specs.Files.{writeFile, onto, asFields}
 use Rattle.cellfile.specs.Fits.{WholeBytes}
-use Rattle.cellfile.specs.Words.{wordBytes, fileOf, shortWord, noEntry, RowsOf, pointsRoom}
+use Rattle.cellfile.specs.Words.{wordBytes, fileOf, shortWord, noEntry, Plain, Writable, RowsOf}
+use Rattle.cellfile.specs.Words.{pointsRoom}
 use Rattle.cellfile.proofs.Bytes.{length-bytes}
 use Rattle.cellfile.proofs.Fields.{write-fields}
 
@@ -148,12 +150,38 @@ header-number kind n m = omega arith
 -- ---- the files that the writers write: a header, what stands behind it, and the entries
 
 -- nothing between the header and the entries
-pub plain-file : (l : Layout) (n m : ℕ) (words : List ℕ) → WholeBytes (l .entry) → l .extra n ≡ [] → m ≤ length words
-    → bytes 4 (packed header (l .kind ∷ n ∷ m ∷ 0 ∷ [])) ++ wordBytes (size (l .entry)) (take m words)
+pub plain-file : {l : Layout} {kind k : ℕ} → Plain l kind k → (n m : ℕ) (words : List ℕ) → m ≤ length words
+    → bytes 4 (packed header (kind ∷ n ∷ m ∷ 0 ∷ [])) ++ wordBytes k (take m words)
     ≡ writeFile l (fileOf l n [] (take m words))
 unfolding bytes
-plain-file l n m words whole e h =
-    rw (words-records (l .entry) (take m words) whole, length-map, length-take-le m words h, e)
+plain-file {l} p n m words h =
+    rw (
+      ← p .kind-is,
+      ← p .bytes-are,
+      words-records (l .entry) (take m words) (p .whole),
+      length-map,
+      length-take-le m words h,
+      p .bare n,
+    )
+
+pub plain-length : {l : Layout} {kind k : ℕ} → Plain l kind k → (n m : ℕ) → fileLength l n m ≡ 4 + k * m
+plain-length p n m = rw (p .bytes-are, p .bare n)
+
+-- behind the header there is room for the entries
+pub plain-room : {l : Layout} {kind k : ℕ} → Plain l kind k → {n m : ℕ} {words out : List ℕ} (out′ : List ℕ)
+    → Writable l n m words out → length out′ ≡ length out → k * m ≤ length (take (length out′ - 4) (drop 4 out′))
+plain-room {k = k} p {n} {m} out′ w same =
+    part-room out′ 4 (k * m) (omega (arith, plain-length p n m, w .room, same))
+
+-- the layouts of slips, pairings and origin lists
+pub plain-slip : Plain slip 3 2
+plain-slip = record { kind-is = refl; bytes-are = refl; whole = refl; bare = λ n. refl }
+
+pub plain-pairing : Plain pairing 4 3
+plain-pairing = record { kind-is = refl; bytes-are = refl; whole = refl; bare = λ n. refl }
+
+pub plain-origins : Plain originList 5 5
+plain-origins = record { kind-is = refl; bytes-are = refl; whole = refl; bare = λ n. refl }
 
 pub length-head : (v w : ℕ) → length (bytes 4 v ++ bytes 8 w) ≡ 12
 length-head v w = rw (length-append, length-bytes 4 v, length-bytes 8 w)

@@ -8,6 +8,7 @@ use Rattle.cellfile.specs.Fields.{size, readRecord, writeRecord, readRec
 use mathlib.Core.Bool.{cond}
 use lib.Dec.{eqb}
 use Rattle.matching.specs.Steps.{Rule, by-leaf, by-ring, by-chain, Step, name}
+use Rattle.matching.specs.Origin.{Origin, from-short, from-step, Origins, numberIn}
 
 -- The fields of the header, and what each of them is.
 abbrev pub header : List ℕ
@@ -47,6 +48,10 @@ slip = record { kind = 3; extra = λ n. []; entry = 6 ∷ 10 ∷ [] }
 -- Pairing (matching): cell a, cell b, four zero bits.
 abbrev pub pairing : Layout
 pairing = record { kind = 4; extra = λ n. []; entry = 10 ∷ 10 ∷ 4 ∷ [] }
+
+-- Origin list: cell a, cell b, step, rule, six zero bits.
+abbrev pub originList : Layout
+originList = record { kind = 5; extra = λ n. []; entry = 10 ∷ 10 ∷ 11 ∷ 3 ∷ 6 ∷ [] }
 
 -- Where the entries of a file of n cells start, and how long the file with m entries is.
 abbrev pub start : Layout → ℕ → ℕ
@@ -144,6 +149,15 @@ asName t = (ruleOf (t .0), t .1)
 
 abbrev pub nameFields : Step → List ℕ
 nameFields s = numberOf (name s .0) ∷ name s .1 ∷ []
+
+-- The fields of a pair of an origin list: its cells, and the number and the rule of its step; 'a pair that stood in the
+-- short pairing and was never replaced has step 0 and rule 0'.
+abbrev pub ruleIn : Origin → ℕ
+ruleIn from-short = 0
+ruleIn (from-step number rule) = numberOf rule
+
+abbrev pub originFields : Origins → Pair → List ℕ
+originFields o e = e .0 ∷ e .1 ∷ numberIn (o (e .0) (e .1)) ∷ ruleIn (o (e .0) (e .1)) ∷ 0 ∷ []
 
 -- An output after a file was written to it: its first bytes are the file, the others are unchanged.
 unfoldable pub onto : List ℕ → List ℕ → List ℕ

@@ -7,10 +7,12 @@ use Rattle.buffers.specs.Map.{unit, atCells}
 use Rattle.matching.specs.Pairs.{Pair}
 use Rattle.matching.specs.Listed.{Entry}
 use Rattle.cellfile.specs.Bytes.{bytes}
-use Rattle.cellfile.specs.Fields.{fields, packed}
+use Rattle.cellfile.specs.Fields.{size, fields, packed}
+use Rattle.cellfile.specs.Fits.{WholeBytes}
 use Rattle.cellfile.specs.Files.{Layout, File, fileLength, pairing, asFields}
-use Rattle.cellfile.specs.Files.{nameFields, pairFields, shortList, slip}
+use Rattle.cellfile.specs.Files.{nameFields, pairFields, originFields, shortList, slip, originList}
 use Rattle.matching.specs.Steps.{Step}
+use Rattle.matching.specs.Origin.{Origins}
 
 -- The last k bytes of each word. Law: proofs/Outputs, `words-records`.
 unfoldable pub wordBytes : ℕ → List ℕ → List ℕ
@@ -21,6 +23,13 @@ wordBytes k (w ∷ ws) = bytes k w ++ wordBytes k ws
 abbrev pub fileOf : Layout → ℕ → List ℕ → List ℕ → File
 fileOf l n extra words = record { cells = n; extra = extra; entries = map (fields (l .entry)) words }
 
+-- A layout of that kind with records of so many whole bytes and nothing between the header and the records.
+pub record Plain (l : Layout) (kind bytes : ℕ) : Type 0 where
+  pub kind-is : l .kind ≡ kind
+  pub bytes-are : size (l .entry) ≡ bytes
+  pub whole : WholeBytes (l .entry)
+  pub bare : (n : ℕ) → l .extra n ≡ []
+
 -- What a writer asks: n and m fit the header, there are m words, and the output has room.
 pub record Writable (l : Layout) (n m : ℕ) (ws out : List ℕ) : Type 0 where
   pub cells : n < 2048
@@ -28,12 +37,15 @@ pub record Writable (l : Layout) (n m : ℕ) (ws out : List ℕ) : Type 0 where
   pub words : m ≤ length ws
   pub room : fileLength l n m ≤ length out
 
--- An entry of a short list, a pair of a pairing and a step of a slip as words.
+-- An entry of a short list, a pair of a pairing or of an origin list, and a step of a slip as words.
 abbrev pub shortWord : Entry → ℕ
 shortWord e = packed (shortList .entry) (asFields e)
 
 abbrev pub pairWord : Pair → ℕ
 pairWord e = packed (pairing .entry) (pairFields e)
+
+abbrev pub originWord : Origins → Pair → ℕ
+originWord o e = packed (originList .entry) (originFields o e)
 
 abbrev pub nameWord : Step → ℕ
 nameWord s = packed (slip .entry) (nameFields s)

@@ -9,7 +9,9 @@ pub const SLIP: u64 = 3;
 
 pub const PAIRING: u64 = 4;
 
-// The bytes of the header, and of a record of a store list, a short list, a slip and a pairing.
+pub const ORIGIN_LIST: u64 = 5;
+
+// The bytes of the header, and of a record of a store list, a short list, a slip, a pairing and an origin list.
 pub const HEADER_BYTES: usize = 4;
 
 pub const ENTRY_BYTES: usize = 5;
@@ -19,6 +21,8 @@ pub const SHORT_BYTES: usize = 8;
 pub const STEP_BYTES: usize = 2;
 
 pub const PAIR_BYTES: usize = 3;
+
+pub const ORIGIN_BYTES: usize = 5;
 
 // The bytes of the carried points, and where the entries of a short list start behind them.
 pub const CARRIED_BYTES: usize = 8;

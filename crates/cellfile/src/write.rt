@@ -10,8 +10,9 @@ ghost use lib.ListN.{length, take};
 ghost use Rattle.buffers.specs.Map.{unit};
 ghost use Rattle.cellfile.specs.Bytes.{bytes};
 ghost use Rattle.cellfile.specs.Fields.{packed};
-ghost use Rattle.cellfile.specs.Files.{header, slip, pairing, shortList, writeFile, fileLength, onto, asFields};
-ghost use Rattle.cellfile.specs.Words.{wordBytes, fileOf, shortWord, Writable, OfRows, RowsFit, pointsRoom};
+ghost use Rattle.cellfile.specs.Files.{header, Layout, shortList, writeFile, fileLength, onto, asFields};
+ghost use Rattle.cellfile.specs.Words.{wordBytes, fileOf, shortWord, Plain, Writable, OfRows};
+ghost use Rattle.cellfile.specs.Words.{RowsFit, pointsRoom};
 
 const KIND_UNIT: u64 = 268435456;
 
@@ -94,34 +95,15 @@ fn put_header(kind: u64, n: usize, m: usize, out: &mut [u8])
     );
 }
 
-// A slip of n cells whose steps are the first m words.
-pub fn write_slip(n: usize, steps: &[u64], m: usize, out: &mut [u8])
-    requires { ⌜ Writable slip n m (now steps) (now out) ⌝ }
-    ensures { λ _. ⌜ now (out .exit)
-        ≡ onto (writeFile slip (fileOf slip n [] (take m (now (steps .entry))))) (now (out .entry)) ⌝ }
+// A file of that kind of n cells, whose entries are the last `bytes` bytes of each of the first m words.
+pub fn write_words(kind: u64, bytes: usize, n: usize, words: &[u64], m: usize, out: &mut [u8])
+    requires { ⌜ ((l : Layout) × Plain l kind bytes × Writable l n m (now words) (now out)) × (kind < 16) × (bytes ≤ 8)
+        ⌝ }
+    ensures { λ _. ⌜ ((l : Layout) → Plain l kind bytes → now (out .exit)
+        ≡ onto (writeFile l (fileOf l n [] (take m (now (words .entry))))) (now (out .entry))) ⌝ }
 {
-    put_header(format::SLIP, n, m, out);
-    put_words(
-        steps,
-        m,
-        format::STEP_BYTES,
-        &mut out[format::HEADER_BYTES..],
-    );
-}
-
-// A pairing of n cells whose pairs are the first m words.
-pub fn write_pairing(n: usize, pairs: &[u64], m: usize, out: &mut [u8])
-    requires { ⌜ Writable pairing n m (now pairs) (now out) ⌝ }
-    ensures { λ _. ⌜ now (out .exit)
-        ≡ onto (writeFile pairing (fileOf pairing n [] (take m (now (pairs .entry))))) (now (out .entry)) ⌝ }
-{
-    put_header(format::PAIRING, n, m, out);
-    put_words(
-        pairs,
-        m,
-        format::PAIR_BYTES,
-        &mut out[format::HEADER_BYTES..],
-    );
+    put_header(kind, n, m, out);
+    put_words(words, m, bytes, &mut out[format::HEADER_BYTES..]);
 }
 
 // A short list of n cells with its carried points, whose entries are the first m rows.

@@ -11,7 +11,8 @@ ghost use Rattle.weighing.specs.Weigh.{weighing};
 ghost use Rattle.cellfile.specs.Answers.{written};
 ghost use Rattle.reduction.specs.Calls.{replaying, reducing, replayShort, slipFile, shortFile};
 ghost use Rattle.starting.specs.Steps.{reduceSteps};
-ghost use Rattle.lifting.specs.Calls.{solving, solveFile, lifting, liftFile, pairing as pairingAnswer, pairingFile};
+ghost use Rattle.lifting.specs.Calls.{solving, solveFile, lifting, liftFile, liftOrigins};
+ghost use Rattle.lifting.specs.Calls.{pairing as pairingAnswer, pairingFile, pairingOrigins};
 ghost use Rattle.view.specs.Serving.{serving};
 ghost use Rattle.checks.specs.Calls.{answered};
 ghost use Rattle.cells_c.specs.Numbers.{valueOr};
@@ -171,22 +172,36 @@ pub extern "C" fn cells_lift(
     work_a: &mut [u64],
     work_b: &mut [u64],
     lifted: &mut [u8],
+    origins: &mut [u8],
     lifted_len: &mut u64,
+    origins_len: &mut u64,
 ) -> u32
     ensures answer { λ r. ⌜ r ≡ lifting (now (list .entry)) (now (slip .entry)) (now (pairing .entry))
-        (lent (now («work_a» .entry)) (now («work_b» .entry))) (length (now (lifted .entry))) .0 ⌝ }
-    ensures values { λ _. ⌜ now («lifted_len» .exit) ≡ valueOr 0 (now («lifted_len» .entry))
+        (lent (now («work_a» .entry)) (now («work_b» .entry))) (length (now (lifted .entry)))
+        (length (now (origins .entry))) .0 ⌝ }
+    ensures values { λ _. ⌜ (now («lifted_len» .exit) ≡ valueOr 0 (now («lifted_len» .entry))
         (lifting (now (list .entry)) (now (slip .entry)) (now (pairing .entry))
-        (lent (now («work_a» .entry)) (now («work_b» .entry))) (length (now (lifted .entry)))) ⌝ }
-    ensures output { λ _. ⌜ now (lifted .exit)
+        (lent (now («work_a» .entry)) (now («work_b» .entry))) (length (now (lifted .entry)))
+        (length (now (origins .entry)))))
+        × (now («origins_len» .exit) ≡ valueOr 1 (now («origins_len» .entry))
+        (lifting (now (list .entry)) (now (slip .entry)) (now (pairing .entry))
+        (lent (now («work_a» .entry)) (now («work_b» .entry))) (length (now (lifted .entry)))
+        (length (now (origins .entry))))) ⌝ }
+    ensures outputs { λ _. ⌜ (now (lifted .exit)
         ≡ written (lifting (now (list .entry)) (now (slip .entry)) (now (pairing .entry))
-        (lent (now («work_a» .entry)) (now («work_b» .entry))) (length (now (lifted .entry))) .0)
-        (liftFile (now (list .entry)) (now (slip .entry)) (now (pairing .entry))) (now (lifted .entry)) ⌝ }
+        (lent (now («work_a» .entry)) (now («work_b» .entry))) (length (now (lifted .entry)))
+        (length (now (origins .entry))) .0)
+        (liftFile (now (list .entry)) (now (slip .entry)) (now (pairing .entry))) (now (lifted .entry)))
+        × (now (origins .exit)
+        ≡ written (lifting (now (list .entry)) (now (slip .entry)) (now (pairing .entry))
+        (lent (now («work_a» .entry)) (now («work_b» .entry))) (length (now (lifted .entry)))
+        (length (now (origins .entry))) .0)
+        (liftOrigins (now (list .entry)) (now (slip .entry)) (now (pairing .entry))) (now (origins .entry))) ⌝ }
     ensures cleared { λ _. ⌜ Cleared (now («work_a» .entry)) (now («work_a» .exit))
         × Cleared (now («work_b» .entry)) (now («work_b» .exit)) ⌝ }
 {
-    let r = lifting::lift(list, slip, pairing, work_a, work_b, lifted);
-    one_length(r, lifted_len)
+    let r = lifting::lift(list, slip, pairing, work_a, work_b, lifted, origins);
+    two_lengths(r, lifted_len, origins_len)
 }
 
 #[no_mangle]
@@ -195,21 +210,34 @@ pub extern "C" fn cells_pair(
     work_a: &mut [u64],
     work_b: &mut [u64],
     pairing: &mut [u8],
+    origins: &mut [u8],
     pairing_len: &mut u64,
+    origins_len: &mut u64,
 ) -> u32
     ensures answer { λ r. ⌜ r ≡ pairingAnswer (now (list .entry))
-        (lent (now («work_a» .entry)) (now («work_b» .entry))) (length (now (pairing .entry))) .0 ⌝ }
-    ensures values { λ _. ⌜ now («pairing_len» .exit) ≡ valueOr 0 (now («pairing_len» .entry))
+        (lent (now («work_a» .entry)) (now («work_b» .entry))) (length (now (pairing .entry)))
+        (length (now (origins .entry))) .0 ⌝ }
+    ensures values { λ _. ⌜ (now («pairing_len» .exit) ≡ valueOr 0 (now («pairing_len» .entry))
         (pairingAnswer (now (list .entry))
-        (lent (now («work_a» .entry)) (now («work_b» .entry))) (length (now (pairing .entry)))) ⌝ }
-    ensures output { λ _. ⌜ now (pairing .exit) ≡ written (pairingAnswer (now (list .entry))
-        (lent (now («work_a» .entry)) (now («work_b» .entry))) (length (now (pairing .entry))) .0)
-        (pairingFile (now (list .entry))) (now (pairing .entry)) ⌝ }
+        (lent (now («work_a» .entry)) (now («work_b» .entry))) (length (now (pairing .entry)))
+        (length (now (origins .entry)))))
+        × (now («origins_len» .exit) ≡ valueOr 1 (now («origins_len» .entry))
+        (pairingAnswer (now (list .entry))
+        (lent (now («work_a» .entry)) (now («work_b» .entry))) (length (now (pairing .entry)))
+        (length (now (origins .entry))))) ⌝ }
+    ensures outputs { λ _. ⌜ (now (pairing .exit) ≡ written (pairingAnswer (now (list .entry))
+        (lent (now («work_a» .entry)) (now («work_b» .entry))) (length (now (pairing .entry)))
+        (length (now (origins .entry))) .0)
+        (pairingFile (now (list .entry))) (now (pairing .entry)))
+        × (now (origins .exit) ≡ written (pairingAnswer (now (list .entry))
+        (lent (now («work_a» .entry)) (now («work_b» .entry))) (length (now (pairing .entry)))
+        (length (now (origins .entry))) .0)
+        (pairingOrigins (now (list .entry))) (now (origins .entry))) ⌝ }
     ensures cleared { λ _. ⌜ Cleared (now («work_a» .entry)) (now («work_a» .exit))
         × Cleared (now («work_b» .entry)) (now («work_b» .exit)) ⌝ }
 {
-    let r = lifting::pair(list, work_a, work_b, pairing);
-    one_length(r, pairing_len)
+    let r = lifting::pair(list, work_a, work_b, pairing, origins);
+    two_lengths(r, pairing_len, origins_len)
 }
 
 #[no_mangle]

@@ -14,8 +14,9 @@ use Rattle.matching.specs.Lists.{any}
 use Rattle.cellfile.specs.Files.{Layout, slip, pairing, cellsOf, countOf, stepsOf, readEntries}
 use Rattle.checks.specs.Refusals.{first, strayPair, misheaded, noRule, badSlip, badPair, badPairing}
 use Rattle.cellfile.specs.Answers.{answer}
+use Rattle.cellfile.specs.Words.{Plain}
 use Rattle.cellfile.specs.Reads.{HeaderRead, StepRead, PairRead}
-use Rattle.checks.specs.Loops.{WholeFile, Headed, badPairs}
+use Rattle.checks.specs.Loops.{WholeFile, badPairs}
 use Rattle.cellfile.specs.declared.decode.Header.{Header}
 use Rattle.cellfile.specs.declared.decode.SlipStep.{SlipStep}
 use Rattle.cellfile.specs.declared.decode.PairEntry.{PairEntry}
@@ -28,7 +29,7 @@ use Rattle.checks.proofs.Forms.{stray-high, stray-turned, stray-not}
 pub entries-fit : (k m : ℕ) → k ≤ 8 → m < 8192 → k * m ≤ 65536
 entries-fit k m p q = omega (arith, mul-le-mul {n₁ = k} {m₁ = m} {n₂ = 8} {m₂ = 8192} p (omega arith))
 
-module _ (kind k n : ℕ) (s : List ℕ) (l : Layout) (d : Headed l kind k) where
+module _ (kind k n : ℕ) (s : List ℕ) (l : Layout) (d : Plain l kind k) where
   pub head-short : length s < 4 → true ≡ misheaded l n s
   unfolding misheaded
   head-short p = rw (lt-ltb (length s) 4 p)
@@ -150,13 +151,6 @@ module _ (s : List ℕ) (n i : ℕ) (l : i < countOf s) (p : PairEntry) (r : Pai
         pairs-next q = rw (fields-next s i p l r, good, le-leb low (p .a) q, add-one (p .a))
 
 -- ---- the answers
-
--- a slip and a pairing have nothing between the header and the records
-pub slip-headed : Headed slip 3 2
-slip-headed = record { kind-is = refl; bytes-are = refl; bare = λ n. refl }
-
-pub pairing-headed : Headed pairing 4 3
-pairing-headed = record { kind-is = refl; bytes-are = refl; bare = λ n. refl }
 
 -- a file whose header is right is as long as it says
 pub head-whole : (l : Layout) (n : ℕ) (s : List ℕ) (h : Header) → HeaderRead s h → misheaded l n s ≡ false

@@ -6,20 +6,13 @@ use mathlib.Core.Bool.{Bool, not, _||_}
 use mathlib.Core.List.{List, [], _∷_, map}
 use lib.ListN.{length, getD}
 use Rattle.matching.specs.Lists.{any}
-use Rattle.cellfile.specs.Fields.{size}
-use Rattle.cellfile.specs.Files.{Layout, start, fileLength, cellsOf, countOf}
+use Rattle.cellfile.specs.Files.{Layout, fileLength, cellsOf, countOf}
 use Rattle.checks.specs.Refusals.{Row, strayEntry, unordered, ascendingFrom, badPair}
 
 -- A file of m records with all the bytes that its header says.
 pub record WholeFile (l : Layout) (s : List ℕ) (m : ℕ) : Type 0 where
   pub count : m ≡ countOf s
   pub long : fileLength l (cellsOf s) (countOf s) ≤ length s
-
--- A layout of that kind with records of so many bytes and nothing between the header and the records.
-pub record Headed (l : Layout) (kind bytes : ℕ) : Type 0 where
-  pub kind-is : l .kind ≡ kind
-  pub bytes-are : size (l .entry) ≡ bytes
-  pub bare : (n : ℕ) → start l n ≡ 4
 
 -- The rows of a list's entries, which one walk over them decides.
 abbrev pub entryRows : List ℕ → List Row

@@ -11,11 +11,12 @@ ghost use Rattle.cellfile.specs.Files.{Layout, slip as slipLayout, pairing as p
 ghost use Rattle.cellfile.specs.Files.{readEntries, listLayout};
 ghost use Rattle.checks.specs.Refusals.{first, fewWords, lists, listRows, notAList, tooLarge};
 ghost use Rattle.checks.specs.Refusals.{misheaded, rules, noRule, badSlip, badPairing};
+ghost use Rattle.cellfile.specs.Words.{Plain};
 ghost use Rattle.cellfile.specs.Answers.{answer};
 ghost use Rattle.buffers.specs.Buffers.{lent};
 ghost use Rattle.checks.specs.Calls.{callRows};
 ghost use Rattle.checks.specs.Checking.{checked};
-ghost use Rattle.checks.specs.Loops.{WholeFile, Headed, entryRows, badPairs};
+ghost use Rattle.checks.specs.Loops.{WholeFile, entryRows, badPairs};
 ghost use Rattle.checks.specs.Merging.{Seeks};
 
 // A file's refusal, or its cells n and its count m.
@@ -135,7 +136,7 @@ pub fn check_call(few: bool, list: &[u8]) -> Checked
 // What refusals 7 and 9 share, for a layout of that kind with records of so many bytes.
 fn wrong_head(s: &[u8], kind: u64, bytes: usize, n: usize) -> bool
     requires { ⌜ bytes ≤ 8 ⌝ }
-    ensures { λ r. ⌜ ((l : Layout) → Headed l kind bytes → r ≡ misheaded l n (now (s .entry))) ⌝ }
+    ensures { λ r. ⌜ ((l : Layout) → Plain l kind bytes → r ≡ misheaded l n (now (s .entry))) ⌝ }
 {
     if s.len() < 4 {
         return true;

@@ -25,12 +25,12 @@ use Rattle.weighing.proofs.Weights.{weigh-sound}
 use Rattle.starting.specs.Steps.{graphIn, stepsOn, stand, slipRows, reduceSteps}
 use Rattle.reduction.specs.Calls.{replayShort}
 use Rattle.starting.proofs.OnList.{list-graph}
-use Rattle.lifting.specs.Calls.{graphAfter, bySteps, cellsAfter, liftRows, liftFile, solveRows, solveFile, pairRows}
-use Rattle.lifting.specs.Calls.{pairingFile, pairing}
+use Rattle.lifting.specs.Calls.{graphAfter, bySteps, cellsAfter, liftRows, liftFile, liftOrigins, solveRows}
+use Rattle.lifting.specs.Calls.{solveFile, pairRows, pairingFile, pairingOrigins}
 use Rattle.claims.specs.Demand.{AcceptedList, Allowed}
 use Rattle.claims.specs.Claims.{leftCells, reduceSlip, reduceShort, Wrote, ZeroTells, Eight, RefusalsTell}
 use Rattle.claims.proofs.Slips.{named}
-use Rattle.claims.proofs.Demand.{withRoom, reduceRows, stands, ten-just}
+use Rattle.claims.proofs.Demand.{withRoom, withRooms, stands, ten-just}
 use Rattle.claims.proofs.Solved.{same-count}
 use Rattle.claims.proofs.Paired.{same-left}
 
@@ -52,6 +52,16 @@ wrote : {file lent : List ℕ} {room i : ℕ} → fewWords lent ≡ false → sh
     → i ∷ [] ≡ length file ∷ [] → Wrote file lent room i
 wrote {file} {lent} {room} few r v =
     record { words = few; fits = room-there room file r; value = ap (λ (vs : List ℕ). getD vs 0 0) v }
+
+-- and with two
+wrote-both : {one two lent : List ℕ} {room further i j : ℕ} → fewWords lent ≡ false
+    → shortOutput ((room, one) ∷ (further, two) ∷ []) ≡ false → i ∷ j ∷ [] ≡ length one ∷ length two ∷ []
+    → Wrote one lent room i × Wrote two lent further j
+wrote-both {one} {two} {lent} {room} {further} few r v =
+    let fit = rooms-there room further one two r in (
+      record { words = few; fits = fit .0; value = ap (λ (vs : List ℕ). getD vs 0 0) v },
+      record { words = few; fits = fit .1; value = ap (λ (vs : List ℕ). getD vs 1 0) v },
+    )
 
 steps-there : (list slip : List ℕ) → disallowed (stand list) slip ≡ false
     → (ss : List Step) × (stepsOn list (stepsOf slip) ≡ some ss)
@@ -78,27 +88,27 @@ zero-tells = record {
       (length (replayShort list slip) ∷ []) (omega arith) e in
       (allowed-of list slip (a .1) (a .2 .0) (a .2 .1 .0), wrote (a .0) (a .2 .1 .1 .0) (a .3))
       );
-  lift = λ list slip pairing lent room i e. (
+  lift = λ list slip pairing lent room originRoom i j e. (
       let a =
-      call-sound list lent (withRoom (liftRows list slip pairing) room (liftFile list slip pairing)) (i ∷ [])
-      (length (liftFile list slip pairing) ∷ [])
-      (omega arith) e in
-      let h = allowed-of list slip (a .1) (a .2 .0) (a .2 .1 .0) in (
+      call-sound list lent
+      (withRooms (liftRows list slip pairing) room originRoom (liftFile list slip pairing)
+      (liftOrigins list slip pairing)) (i ∷ j ∷ [])
+      (length (liftFile list slip pairing) ∷ length (liftOrigins list slip pairing) ∷ []) (omega arith) e in
+      let h = allowed-of list slip (a .1) (a .2 .0) (a .2 .1 .0) in
+      let both = wrote-both (a .0) (a .2 .1 .1 .1 .1 .0) (a .3) in (
         h,
         record { formed = a .2 .1 .1 .0; pairs = ten-just list slip h (pairsOf pairing) .0 (a .2 .1 .1 .1 .0) },
-        wrote (a .0) (a .2 .1 .1 .1 .1 .0) (a .3),
+        both .0,
+        both .1,
       )
       );
   weigh = weigh-sound;
   reduce = λ list lent slipRoom shortRoom i j e. (
       let a =
-      call-sound list lent (reduceRows list slipRoom shortRoom) (i ∷ j ∷ [])
+      call-sound list lent (withRooms [] slipRoom shortRoom (reduceSlip list) (reduceShort list)) (i ∷ j ∷ [])
       (length (reduceSlip list) ∷ length (reduceShort list) ∷ []) (omega arith) e in
-      let r = rooms-there slipRoom shortRoom (reduceSlip list) (reduceShort list) (a .2 .0) in (
-        a .1,
-        record { words = a .0; fits = r .0; value = ap (λ (vs : List ℕ). getD vs 0 0) (a .3) },
-        record { words = a .0; fits = r .1; value = ap (λ (vs : List ℕ). getD vs 1 0) (a .3) },
-      )
+      let both = wrote-both (a .0) (a .2 .0) (a .3) in
+      (a .1, both .0, both .1)
       );
   solve = λ list slip lent room i e. (
       let a =
@@ -110,13 +120,15 @@ zero-tells = record {
         wrote (a .0) (a .2 .1 .1 .1 .0) (a .3),
       )
       );
-  pair = λ list lent room i e. (
+  pair = λ list lent room originRoom i j e. (
       let a =
-      call-sound list lent (withRoom (pairRows list) room (pairingFile list)) (i ∷ []) (length (pairingFile list) ∷ [])
-      (omega arith) e in (
+      call-sound list lent (withRooms (pairRows list) room originRoom (pairingFile list) (pairingOrigins list))
+      (i ∷ j ∷ []) (length (pairingFile list) ∷ length (pairingOrigins list) ∷ []) (omega arith) e in
+      let both = wrote-both (a .0) (a .2 .1 .0) (a .3) in (
         a .1,
         ltb-false 12 (leftCells list (reduceSlip list)) (ap crowded (sym (same-left list (a .1))) ∙ a .2 .0),
-        wrote (a .0) (a .2 .1 .0) (a .3),
+        both .0,
+        both .1,
       )
       );
 }
@@ -169,18 +181,18 @@ refusals-tell = record {
         (λ room. ((λ e. omega arith), tt)),
     eight list slip (λ room. crowdedRow (cellsAfter list slip) ∷ roomRow ((room, solveFile list slip) ∷ []) ∷ [])
         (length (solveFile list slip) ∷ []) (λ room. ((λ e. omega arith), ((λ e. omega arith), tt))),
-    (λ pairing. eight list slip (λ room. formRow (cellsOf list) pairing
+    (λ pairing originRoom. eight list slip (λ room. formRow (cellsOf list) pairing
         ∷ holdRow (bySteps list slip (graphIn list) (graphAfter list)) pairing
-        ∷ roomRow ((room, liftFile list slip pairing) ∷ []) ∷ [])
-        (length (liftFile list slip pairing) ∷ [])
+        ∷ roomRow ((room, liftFile list slip pairing) ∷ (originRoom, liftOrigins list slip pairing) ∷ []) ∷ [])
+        (length (liftFile list slip pairing) ∷ length (liftOrigins list slip pairing) ∷ [])
         (λ room. ((λ e. omega arith), ((λ e. omega arith), ((λ e. omega arith), tt))))),
   );
-  ten-lift = λ list slip pairing lent room. (
+  ten-lift = λ list slip pairing lent room originRoom. (
       let just =
       call-refused list lent (slipRows list slip ++ formRow (cellsOf list) pairing ∷ [])
-      (roomRow ((room, liftFile list slip pairing) ∷ []) ∷ []) 10
+      (roomRow ((room, liftFile list slip pairing) ∷ (originRoom, liftOrigins list slip pairing) ∷ []) ∷ []) 10
       (noPairing (bySteps list slip (graphIn list) (graphAfter list)) (pairsOf pairing))
-      (length (liftFile list slip pairing) ∷ []) (omega arith)
+      (length (liftFile list slip pairing) ∷ length (liftOrigins list slip pairing) ∷ []) (omega arith)
       ((λ e. omega arith), ((λ e. omega arith), ((λ e. omega arith), tt))) ((λ e. omega arith), tt) in (
         (λ e. (
             let s = just .0 e in
@@ -213,11 +225,11 @@ refusals-tell = record {
         )),
       )
       );
-  eleven-pair = λ list lent room. (
+  eleven-pair = λ list lent room originRoom. (
       let just =
-      call-refused list lent [] (roomRow ((room, pairingFile list) ∷ []) ∷ []) 11
-      (crowded (cellsLeft (cellsOf list) (graphAfter list (reduceSteps list)))) (length (pairingFile list) ∷ [])
-      (omega arith) tt ((λ e. omega arith), tt) in (
+      call-refused list lent [] (roomRow ((room, pairingFile list) ∷ (originRoom, pairingOrigins list) ∷ []) ∷ []) 11
+      (crowded (cellsLeft (cellsOf list) (graphAfter list (reduceSteps list))))
+      (length (pairingFile list) ∷ length (pairingOrigins list) ∷ []) (omega arith) tt ((λ e. omega arith), tt) in (
         (λ e. (
             let s = just .0 e in (
               s .0,

@@ -7,7 +7,6 @@ use mathlib.Core.List.{List, [], _∷_, map}
 use Prim.Native.Nat.{ℕ, _≤_, _<_}
 use native.Mathlib.Omega.{arith}
 use lib.ListN.{length}
-use borrow.Author.Tests.{le-ltb}
 use Rattle.matching.specs.Lists.{All}
 use Rattle.matching.specs.Pairs.{Pair}
 use Rattle.matching.specs.Listed.{Entry, joined, points}
@@ -20,7 +19,7 @@ use Rattle.matching.proofs.Reduce.{replay-is, carried-sum, reduce-in-turn}
 use Rattle.matching.proofs.Ways.{slip-lifts}
 use Rattle.cellfile.specs.Files.{cellsOf, entriesAll, pairsOf}
 use Rattle.cellfile.proofs.Lists.{view-all}
-use Rattle.checks.specs.Refusals.{fewWords, badPairing, shortOutput}
+use Rattle.checks.specs.Refusals.{fewWords, badPairing}
 use Rattle.checks.proofs.Layers.{call-passes}
 use Rattle.weighing.specs.Weigh.{weighing}
 use Rattle.weighing.proofs.Weights.{weigh-passes}
@@ -32,12 +31,13 @@ use Rattle.starting.proofs.OnList.{list-graph}
 use Rattle.reduction.proofs.Reducing.{reduce-allowed}
 use Rattle.lifting.specs.Calls.{pairFile, liftFile}
 use Rattle.lifting.proofs.Filing.{file-read, file-pairing, file-formed, file-longest, all-entries}
-use Rattle.claims.specs.Demand.{AcceptedList, storeOf, shortOf, PairingOf, Allowed, Liftable}
+use Rattle.claims.specs.Demand.{AcceptedList, storeOf, shortOf, PairingOf, WritesBoth, Allowed, Liftable}
 use Rattle.claims.specs.Claims.{WellFormed, listFile, ListClaim, SlipClaim, PairingClaim, Met, ReplayClaim}
 use Rattle.claims.specs.Claims.{LiftClaim, reduceSlip, reduceShort, ReduceClaim}
 use Rattle.claims.proofs.Slips.{slip-names, slip-allowed, slip-longest, short-longest, rs, same-file, short-is}
 use Rattle.claims.proofs.Slips.{carried-is, cells-are, replay-longest, short-entries-graph, pairing-after}
-use Rattle.claims.proofs.Demand.{reduceRows, same-lifted, store-pairing, lifted-is, demand-three}
+use Rattle.claims.proofs.Demand.{withRooms, rooms-enough, same-lifted, store-pairing, lifted-is, demand-three}
+use Rattle.claims.proofs.Origins.{origin-claim}
 
 -- ---- the hypotheses are met
 
@@ -127,20 +127,16 @@ lift-claim list slip pairing h p =
           ∙ ap (λ (i : ℕ). (0, i ∷ [])) (keeps .exact)
           );
       longest = omega (arith, ap length (same-lifted list slip h pairing p), file-longest le g up held);
+      origins = origin-claim list slip h pairing p;
     }
 
 -- ---- reduce
 
-reduce-writes : (list : List ℕ) → AcceptedList list → (lent : List ℕ) (slipRoom shortRoom : ℕ) → fewWords lent ≡ false
-    → length (reduceSlip list) ≤ slipRoom → length (reduceShort list) ≤ shortRoom
-    → reducing list lent slipRoom shortRoom ≡ (0, length (reduceSlip list) ∷ length (reduceShort list) ∷ [])
-unfolding shortOutput
-reduce-writes list h lent slipRoom shortRoom enough l k =
-    call-passes list lent (reduceRows list slipRoom shortRoom)
-    (length (reduceSlip list) ∷ length (reduceShort list) ∷ []) enough h (
-      rw (le-ltb slipRoom (length (reduceSlip list)) l, le-ltb shortRoom (length (reduceShort list)) k),
-      tt,
-    )
+reduce-writes : (list : List ℕ) → AcceptedList list → WritesBoth (reducing list) (reduceSlip list) (reduceShort list)
+reduce-writes list h lent room further enough l k =
+    call-passes list lent (withRooms [] room further (reduceSlip list) (reduceShort list))
+    (length (reduceSlip list) ∷ length (reduceShort list) ∷ []) enough h
+    (rooms-enough room further (reduceSlip list) (reduceShort list) l k, tt)
 
 pub reduce-claim : (list : List ℕ) → AcceptedList list → ReduceClaim list
 reduce-claim list h =

@@ -24,13 +24,12 @@ use Rattle.starting.specs.Steps.{graphIn, stand, slipRows}
 use Rattle.reduction.specs.Calls.{replayShort, replaying}
 use Rattle.checks.proofs.Accepted.{accepted-list}
 use Rattle.starting.proofs.OnList.{list-graph}
-use Rattle.lifting.specs.Calls.{graphAfter, liftedFile, bySteps, liftRows, liftFile, lifting}
+use Rattle.lifting.specs.Calls.{graphAfter, liftedFile, bySteps, liftRows, liftFile, liftOrigins, lifting}
 use Rattle.matching.specs.Solve.{solution}
 use Rattle.solving.proofs.Solution.{solution-heaviest}
 use Rattle.lifting.proofs.Filing.{file-read, file-formed, all-entries, lifted-pairing, heaviest-lifted}
 use Rattle.claims.specs.Demand.{storeOf, shortOf, PairingOf, HeaviestOf, Writes, Allowed, Liftable, ShortKeeps}
-use Rattle.claims.specs.Demand.{LiftKeeps, DemandThree}
-use Rattle.claims.specs.Claims.{reduceSlip, reduceShort}
+use Rattle.claims.specs.Demand.{WritesBoth, LiftKeeps, DemandThree}
 use Rattle.claims.proofs.Slips.{rs, after, taken, by-steps, carried-is, graph-after, short-graph, pairing-after}
 use Rattle.claims.proofs.Slips.{after-pairing, heaviest-after, after-heaviest}
 
@@ -40,13 +39,17 @@ pub room-enough : (room : ℕ) (file : List ℕ) → length file ≤ room → sh
 unfolding shortOutput
 room-enough room file l = rw (le-ltb room (length file) l)
 
--- the rows of a call with one output, and those of reduce
+pub rooms-enough : (room further : ℕ) (one two : List ℕ) → length one ≤ room → length two ≤ further
+    → shortOutput ((room, one) ∷ (further, two) ∷ []) ≡ false
+unfolding shortOutput
+rooms-enough room further one two l k = rw (le-ltb room (length one) l, le-ltb further (length two) k)
+
+-- the rows of a call with one output, and with two
 abbrev pub withRoom : List Row → ℕ → List ℕ → List Row
 withRoom own room file = own ++ roomRow ((room, file) ∷ []) ∷ []
 
-abbrev pub reduceRows : (list : List ℕ) (slipRoom shortRoom : ℕ) → List Row
-reduceRows list slipRoom shortRoom =
-    roomRow ((slipRoom, reduceSlip list) ∷ (shortRoom, reduceShort list) ∷ []) ∷ []
+abbrev pub withRooms : List Row → (room further : ℕ) (one two : List ℕ) → List Row
+withRooms own room further one two = own ++ roomRow ((room, one) ∷ (further, two) ∷ []) ∷ []
 
 -- ---- a slip that is allowed
 
@@ -60,7 +63,7 @@ module _ (list slip : List ℕ) (h : Allowed list slip) where
       (length (replayShort list slip) ∷ []) enough (h .accepted)
       (h .formed, (ap not stands, (room-enough room (replayShort list slip) l, tt)))
 
-  whole : NoGainNoLoss (cellsOf list) (storeOf list) (h .steps)
+  pub whole : NoGainNoLoss (cellsOf list) (storeOf list) (h .steps)
   whole =
       no-gain-no-loss (cellsOf list) (storeOf list) (accepted-list list (h .accepted) .1) (rs list slip h) (h .steps)
       (taken list slip h)
@@ -118,11 +121,12 @@ module _ (list slip : List ℕ) (h : Allowed list slip) where
     fits : Pairing (left (graphIn list) (h .steps)) (pairsOf pairing)
     fits = pairing-after list slip h m (p .pairs)
 
-    lift-writes : Writes (lifting list slip pairing) (liftFile list slip pairing)
-    lift-writes lent room enough l =
-        call-passes list lent (withRoom (liftRows list slip pairing) room (liftFile list slip pairing))
-        (length (liftFile list slip pairing) ∷ []) enough
-        (h .accepted) (
+    lift-writes : WritesBoth (lifting list slip pairing) (liftFile list slip pairing) (liftOrigins list slip pairing)
+    lift-writes lent room further enough l k =
+        call-passes list lent
+        (withRooms (liftRows list slip pairing) room further (liftFile list slip pairing)
+        (liftOrigins list slip pairing))
+        (length (liftFile list slip pairing) ∷ length (liftOrigins list slip pairing) ∷ []) enough (h .accepted) (
           h .formed,
           (
             ap not stands,
@@ -130,7 +134,7 @@ module _ (list slip : List ℕ) (h : Allowed list slip) where
               p .formed,
               (
                 ten-just m .1 (p .pairs),
-                (room-enough room (liftFile list slip pairing) l, tt),
+                (rooms-enough room further (liftFile list slip pairing) (liftOrigins list slip pairing) l k, tt),
               ),
             ),
           ),

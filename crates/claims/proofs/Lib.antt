@@ -1,6 +1,7 @@
 -- The laws of what the calls say together.
 pub mod Slips
 pub mod Demand
+pub mod Origins
 pub mod Claims
 pub mod Solved
 pub mod Paired

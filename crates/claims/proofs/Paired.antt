@@ -14,11 +14,13 @@ use Rattle.weighing.specs.Weigh.{weighing}
 use Rattle.checks.proofs.Layers.{call-passes}
 use Rattle.starting.specs.Steps.{reduceSteps}
 use Rattle.reduction.proofs.Reducing.{reduce-allowed}
-use Rattle.lifting.specs.Calls.{graphAfter, liftedFile, solveFile, liftFile, pairRows, pairingFile, pairing}
-use Rattle.claims.specs.Demand.{AcceptedList, storeOf, shortOf, HeaviestOf, Writes, Allowed, Liftable}
-use Rattle.claims.specs.Claims.{leftCells, reduceSlip, SolveClaim, LiftClaim, PairClaim}
+use Rattle.lifting.specs.Calls.{graphAfter, liftedFile, liftedOrigins, solveFile, liftFile, liftOrigins}
+use Rattle.lifting.specs.Calls.{pairRows, pairingFile, pairingOrigins, pairing}
+use Rattle.claims.specs.Demand.{AcceptedList, storeOf, shortOf, HeaviestOf, WritesBoth, Allowed, Liftable}
+use Rattle.claims.specs.Claims.{leftCells, reduceSlip, OriginClaim, SolveClaim, LiftClaim, PairClaim}
 use Rattle.claims.proofs.Slips.{slip-allowed, short-graph}
-use Rattle.claims.proofs.Demand.{withRoom, room-enough, same-lifted, demand-three}
+use Rattle.claims.proofs.Demand.{withRooms, rooms-enough, same-lifted, demand-three}
+use Rattle.claims.proofs.Origins.{same-origins}
 use Rattle.claims.proofs.Claims.{lift-claim, reduce-claim}
 use Rattle.claims.proofs.Solved.{solve-read, solve-claim}
 
@@ -48,17 +50,26 @@ module _ (list : List ℕ) (h : AcceptedList list) where
       ap (liftedFile list (reduceSteps list)) (sym (solve-read list slip allowed))
       ∙ sym (same-lifted list slip allowed (solveFile list slip) liftable)
 
-  pair-writes : leftCells list (reduceSlip list) ≤ 12 → Writes (pairing list) (pairingFile list)
-  pair-writes few lent room enough l =
-      call-passes list lent (withRoom (pairRows list) room (pairingFile list)) (length (pairingFile list) ∷ []) enough h
-      (ap crowded same-left ∙ le-ltb 12 (leftCells list slip) few, (room-enough room (pairingFile list) l, tt))
+  same-from : pairingOrigins list ≡ liftOrigins list (reduceSlip list) (solveFile list (reduceSlip list))
+  same-from =
+      ap (liftedOrigins list (reduceSteps list)) (sym (solve-read list slip allowed))
+      ∙ sym (same-origins list slip allowed (solveFile list slip) liftable)
+
+  pair-writes : leftCells list (reduceSlip list) ≤ 12
+      → WritesBoth (pairing list) (pairingFile list) (pairingOrigins list)
+  pair-writes few lent room further enough l k =
+      call-passes list lent (withRooms (pairRows list) room further (pairingFile list) (pairingOrigins list))
+      (length (pairingFile list) ∷ length (pairingOrigins list) ∷ []) enough h (
+        ap crowded same-left ∙ le-ltb 12 (leftCells list slip) few,
+        (rooms-enough room further (pairingFile list) (pairingOrigins list) l k, tt),
+      )
 
   pub pair-claim : PairClaim list
   pair-claim =
       let reduce = reduce-claim list h in
       record {
         writes = pair-writes;
-        composed = three-calls;
+        composed = (three-calls, same-from);
         reduced = reduce;
         solved = solve;
         lifted = lift;
@@ -71,4 +82,9 @@ module _ (list : List ℕ) (h : AcceptedList list) where
             (reduce .replays)
             );
         longest = omega (arith, ap length three-calls, lift .longest);
+        origins =
+            subst (λ (f : List ℕ). OriginClaim list (solveFile list slip) f (pairingOrigins list) (reduceSteps list))
+            (sym three-calls)
+            (subst (λ (o : List ℕ). OriginClaim list (solveFile list slip) (liftFile list slip (solveFile list slip)) o
+            (reduceSteps list)) (sym same-from) (lift .origins));
       }

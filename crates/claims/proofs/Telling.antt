@@ -19,13 +19,14 @@ use Rattle.checks.specs.Calls.{callRows}
 use Rattle.checks.proofs.Layers.{answer-refused, answer-accepted}
 use Rattle.reduction.specs.Calls.{replayShort, replaying}
 use Rattle.starting.specs.Steps.{slipRows}
-use Rattle.lifting.specs.Calls.{lifting, liftRows, liftFile}
+use Rattle.lifting.specs.Calls.{lifting, liftRows, liftFile, liftOrigins}
 use Rattle.claims.specs.Demand.{Allowed, Liftable}
 use Rattle.claims.specs.Claims.{Wrote}
 use Rattle.claims.specs.Asking.{asked, andThen, lifts as liftsAfter, asking, Told, Tells}
 use Rattle.claims.specs.declared.Asked.{Asked}
 use Rattle.claims.specs.declared.Asked.the-variants.{Refused, Answered}
-use Rattle.claims.proofs.Demand.{withRoom, demand-three}
+use Rattle.claims.proofs.Demand.{withRoom, withRooms, demand-three}
+use Rattle.claims.proofs.Origins.{origin-claim}
 use Rattle.claims.proofs.Answers.{zero-tells}
 
 -- A file is read again from the output that it was written to.
@@ -58,6 +59,7 @@ pub record Given : Type 0 where
   pub b : List ℕ
   pub short : List ℕ
   pub lifted : List ℕ
+  pub origins : List ℕ
 
 module _ (g : Given) where
   abbrev words : List ℕ
@@ -69,6 +71,9 @@ module _ (g : Given) where
   abbrev lift-file : List ℕ
   lift-file = liftFile (g .list) (g .slip) (g .pairing)
 
+  abbrev origin-file : List ℕ
+  origin-file = liftOrigins (g .list) (g .slip) (g .pairing)
+
   -- Replay answered x; then lift, with the buffers that replay left; then weigh of the first j bytes that lift wrote.
   abbrev pub ReplayDid : (x : Answer) (short′ a′ b′ : List ℕ) → Type 0
   ReplayDid x short′ a′ b′ =
@@ -76,10 +81,11 @@ module _ (g : Given) where
       × ((short′ ≡ written (x .0) (replayShort (g .list) (g .slip)) (g .short))
       × (Cleared (g .a) a′ × Cleared (g .b) b′))
 
-  abbrev pub LiftDid : (a′ b′ : List ℕ) (x : Answer) (lifted′ a″ b″ : List ℕ) → Type 0
-  LiftDid a′ b′ x lifted′ a″ b″ =
-      (x ≡ lifting (g .list) (g .slip) (g .pairing) (lent a′ b′) (length (g .lifted)))
-      × ((lifted′ ≡ written (x .0) (liftFile (g .list) (g .slip) (g .pairing)) (g .lifted))
+  abbrev pub LiftDid : (a′ b′ : List ℕ) (x : Answer) (lifted′ origins′ a″ b″ : List ℕ) → Type 0
+  LiftDid a′ b′ x lifted′ origins′ a″ b″ =
+      (x ≡ lifting (g .list) (g .slip) (g .pairing) (lent a′ b′) (length (g .lifted)) (length (g .origins)))
+      × (((lifted′ ≡ written (x .0) (liftFile (g .list) (g .slip) (g .pairing)) (g .lifted))
+      × (origins′ ≡ written (x .0) (liftOrigins (g .list) (g .slip) (g .pairing)) (g .origins)))
       × (Cleared a′ a″ × Cleared b′ b″))
 
   abbrev pub WeighDid : (lifted′ a″ b″ : List ℕ) (j : ℕ) (x : Answer) (a‴ b‴ : List ℕ) → Type 0
@@ -87,21 +93,24 @@ module _ (g : Given) where
       (x ≡ weighing (g .list) (take j lifted′) (lent a″ b″)) × (Cleared a″ a‴ × Cleared b″ b‴)
 
   -- What `ask` promises of its answer, its outputs and the work buffers.
-  abbrev pub Promised : Asked → (short′ lifted′ a′ b′ : List ℕ) → Type 0
-  Promised r short′ lifted′ a′ b′ =
-      (asked r ≡ asking (g .list) (g .slip) (g .pairing) (lent (g .a) (g .b)) (length (g .short)) (length (g .lifted)))
+  abbrev pub Promised : Asked → (short′ lifted′ origins′ a′ b′ : List ℕ) → Type 0
+  Promised r short′ lifted′ origins′ a′ b′ =
+      (asked r ≡ asking (g .list) (g .slip) (g .pairing) (lent (g .a) (g .b)) (length (g .short)) (length (g .lifted))
+      (length (g .origins)))
       × (((short′ ≡ written (replaying (g .list) (g .slip) (lent (g .a) (g .b)) (length (g .short)) .0)
       (replayShort (g .list) (g .slip)) (g .short))
       × (lifted′ ≡ written (liftsAfter (g .list) (g .slip) (g .pairing) (lent (g .a) (g .b)) (length (g .short))
-      (length (g .lifted)) .0) (liftFile (g .list) (g .slip) (g .pairing)) (g .lifted)))
-      × (Tells (g .list) (g .slip) (g .pairing) short′ lifted′ r
+      (length (g .lifted)) (length (g .origins)) .0) (liftFile (g .list) (g .slip) (g .pairing)) (g .lifted))
+      × (origins′ ≡ written (liftsAfter (g .list) (g .slip) (g .pairing) (lent (g .a) (g .b)) (length (g .short))
+      (length (g .lifted)) (length (g .origins)) .0) (liftOrigins (g .list) (g .slip) (g .pairing)) (g .origins)))
+      × (Tells (g .list) (g .slip) (g .pairing) short′ lifted′ origins′ r
       × (Cleared (g .a) a′ × Cleared (g .b) b′)))
 
   abbrev replays : Answer
   replays = replaying (g .list) (g .slip) words (length (g .short))
 
   abbrev lifts : Answer
-  lifts = lifting (g .list) (g .slip) (g .pairing) words (length (g .lifted))
+  lifts = lifting (g .list) (g .slip) (g .pairing) words (length (g .lifted)) (length (g .origins))
 
   abbrev ended : List ℕ → List ℕ → Answer → Answer
   ended i j x = andThen x (λ p. (0, i ++ j ++ p))
@@ -111,6 +120,9 @@ module _ (g : Given) where
 
   abbrev after-lift : ℕ → List ℕ
   after-lift k = written k lift-file (g .lifted)
+
+  abbrev after-origins : ℕ → List ℕ
+  after-origins k = written k origin-file (g .origins)
 
   short-out : {x : Answer} {short′ a′ b′ : List ℕ} → ReplayDid x short′ a′ b′
       → short′ ≡ written (replays .0) short-file (g .short)
@@ -128,11 +140,17 @@ module _ (g : Given) where
   -- ---- replay refuses
 
   refused-first : {k : ℕ} {short′ a′ b′ : List ℕ} → ReplayDid (k, []) short′ a′ b′
-      → Promised (Refused k) short′ (g .lifted) a′ b′
+      → Promised (Refused k) short′ (g .lifted) (g .origins) a′ b′
   refused-first {k} r = (
     ap (λ (x : Answer). andThen x (λ i. onward i lifts)) (r .0),
     (
-      (short-out r, stays k positive ∙ ap (λ (x : Answer). after-lift (andThen x (λ i. lifts) .0)) (r .0)),
+      (
+        short-out r,
+        stays lift-file (g .lifted) k positive
+            ∙ ap (λ (x : Answer). after-lift (andThen x (λ i. lifts) .0)) (r .0),
+        stays origin-file (g .origins) k positive
+            ∙ ap (λ (x : Answer). after-origins (andThen x (λ i. lifts) .0)) (r .0),
+      ),
       (tt, r .1 .1),
     ),
   )
@@ -144,12 +162,12 @@ module _ (g : Given) where
           ++ withRoom (slipRows (g .list) (g .slip)) (length (g .short)) short-file)) k
           (length short-file) [] (r .0) in omega (arith, q .0, q .1)
 
-      stays : (k : ℕ) → 0 < k → g .lifted ≡ after-lift k
-      stays zero h = (let z : ⊥ = omega arith in absurd z)
-      stays (suc k) h = refl
+      stays : (file out : List ℕ) (k : ℕ) → 0 < k → out ≡ written k file out
+      stays file out zero h = (let z : ⊥ = omega arith in absurd z)
+      stays file out (suc k) h = refl
 
   pub replay-refused : {x : Answer} {k : ℕ} {short′ a′ b′ : List ℕ} → x ≡ (k, []) → ReplayDid x short′ a′ b′
-      → Promised (Refused k) short′ (g .lifted) a′ b′
+      → Promised (Refused k) short′ (g .lifted) (g .origins) a′ b′
   replay-refused {short′ = short′} {a′} {b′} e r = refused-first (subst (λ y. ReplayDid y short′ a′ b′) e r)
 
   -- ---- replay answers i
@@ -159,84 +177,100 @@ module _ (g : Given) where
     r = subst (λ y. ReplayDid y short′ a′ b′) e did
 
     -- lift is lent the buffers that replay cleared
-    lifts-here : {x : Answer} {lifted′ a″ b″ : List ℕ} → LiftDid a′ b′ x lifted′ a″ b″ → lifts ≡ x
+    lifts-here : {x : Answer} {lifted′ origins′ a″ b″ : List ℕ} → LiftDid a′ b′ x lifted′ origins′ a″ b″ → lifts ≡ x
     lifts-here l =
-        ap (λ (ws : List ℕ). lifting (g .list) (g .slip) (g .pairing) ws (length (g .lifted)))
+        ap (λ (ws : List ℕ). lifting (g .list) (g .slip) (g .pairing) ws (length (g .lifted)) (length (g .origins)))
         (sym (lent-again (g .a) (g .b) (r .1 .1)))
         ∙ sym (l .0)
 
     lift-next : asking (g .list) (g .slip) (g .pairing) words (length (g .short)) (length (g .lifted))
+        (length (g .origins))
         ≡ onward (i ∷ []) lifts
     lift-next = ap (λ (x : Answer). andThen x (λ i. onward i lifts)) (sym (r .0))
 
-    outs : {x : Answer} {lifted′ a″ b″ : List ℕ} → LiftDid a′ b′ x lifted′ a″ b″
+    outs : {x : Answer} {lifted′ origins′ a″ b″ : List ℕ} → LiftDid a′ b′ x lifted′ origins′ a″ b″
         → (short′ ≡ written (replays .0) short-file (g .short))
         × (lifted′ ≡ after-lift (andThen replays (λ i. lifts) .0))
+        × (origins′ ≡ after-origins (andThen replays (λ i. lifts) .0))
     outs l = (
       short-out r,
-      l .1 .0 ∙ sym (ap (λ (x : Answer). after-lift (x .0)) (lifts-here l))
+      l .1 .0 .0 ∙ sym (ap (λ (x : Answer). after-lift (x .0)) (lifts-here l))
           ∙ ap (λ (x : Answer). after-lift (andThen x (λ i. lifts) .0)) (r .0),
+      l .1 .0 .1 ∙ sym (ap (λ (x : Answer). after-origins (x .0)) (lifts-here l))
+          ∙ ap (λ (x : Answer). after-origins (andThen x (λ i. lifts) .0)) (r .0),
     )
 
-    pub lift-one : {z : Answer} {j k : ℕ} {lifted′ a″ b″ : List ℕ} → z ≡ (0, j ∷ k ∷ [])
-        → LiftDid a′ b′ z lifted′ a″ b″ → ⊥
-    lift-one {j = j} {k = k} f l =
+    -- lift answers two
+    pub lift-two : {z : Answer} {j : ℕ} {lifted′ origins′ a″ b″ : List ℕ} → z ≡ (0, j ∷ [])
+        → LiftDid a′ b′ z lifted′ origins′ a″ b″ → ⊥
+    lift-two {j = j} f l =
         let is = answer-accepted (first (callRows (fewWords (lent a′ b′)) (g .list)
-        ++ withRoom (liftRows (g .list) (g .slip) (g .pairing)) (length (g .lifted)) lift-file)) (j ∷ k ∷ [])
-        (length lift-file ∷ [])
+        ++ withRooms (liftRows (g .list) (g .slip) (g .pairing)) (length (g .lifted)) (length (g .origins)) lift-file
+        origin-file)) (j ∷ []) (length lift-file ∷ length origin-file ∷ [])
         (sym f ∙ l .0) in
         omega (arith, ap length (is .1))
 
-    pub lift-refused : {y : Answer} {k : ℕ} {lifted′ a″ b″ : List ℕ} → y ≡ (k, []) → LiftDid a′ b′ y lifted′ a″ b″
-        → Promised (Refused k) short′ lifted′ a″ b″
+    pub lift-refused : {y : Answer} {k : ℕ} {lifted′ origins′ a″ b″ : List ℕ} → y ≡ (k, [])
+        → LiftDid a′ b′ y lifted′ origins′ a″ b″ → Promised (Refused k) short′ lifted′ origins′ a″ b″
     lift-refused f l = (
       sym (lift-next ∙ ap (onward (i ∷ [])) (lifts-here l ∙ f)),
       (outs l, (tt, clear-again (g .a) (g .b) (r .1 .1) (l .1 .1))),
     )
 
-    -- ---- lift answers j
+    -- ---- lift answers j and o
 
-    module _ {y : Answer} {j : ℕ} {lifted′ a″ b″ : List ℕ} (f : y ≡ (0, j ∷ []))
-        (lifted : LiftDid a′ b′ y lifted′ a″ b″) where
-      abbrev l : LiftDid a′ b′ (0, j ∷ []) lifted′ a″ b″
-      l = subst (λ z. LiftDid a′ b′ z lifted′ a″ b″) f lifted
+    module _ {y : Answer} {j o : ℕ} {lifted′ origins′ a″ b″ : List ℕ} (f : y ≡ (0, j ∷ o ∷ []))
+        (lifted : LiftDid a′ b′ y lifted′ origins′ a″ b″) where
+      abbrev l : LiftDid a′ b′ (0, j ∷ o ∷ []) lifted′ origins′ a″ b″
+      l = subst (λ z. LiftDid a′ b′ z lifted′ origins′ a″ b″) f lifted
 
       lift-zero : Allowed (g .list) (g .slip) × Liftable (g .list) (g .slip) (g .pairing)
           × Wrote (liftFile (g .list) (g .slip) (g .pairing)) words (length (g .lifted)) j
-      lift-zero = zero-tells .lift (g .list) (g .slip) (g .pairing) words (length (g .lifted)) j (lifts-here l)
+          × Wrote (liftOrigins (g .list) (g .slip) (g .pairing)) words (length (g .origins)) o
+      lift-zero =
+          zero-tells .lift (g .list) (g .slip) (g .pairing) words (length (g .lifted)) (length (g .origins)) j o
+          (lifts-here l)
 
       pub lift-room : j ≤ length (g .lifted)
       lift-room = let w = lift-zero .2 in omega (arith, w .fits, w .value)
 
       lifted-again : take j lifted′ ≡ lift-file
-      lifted-again = ap (take j) (l .1 .0) ∙ file-again lift-file (g .lifted) j (lift-zero .2 .value)
+      lifted-again = ap (take j) (l .1 .0 .0) ∙ file-again lift-file (g .lifted) j (lift-zero .2 .value)
+
+      origins-again : take o origins′ ≡ origin-file
+      origins-again = ap (take o) (l .1 .0 .1) ∙ file-again origin-file (g .origins) o (lift-zero .3 .value)
 
       abbrev clear : Clears (g .a) (g .b) a″ b″
       clear = clear-again (g .a) (g .b) (r .1 .1) (l .1 .1)
 
       weighs-next : {x : Answer} {a‴ b‴ : List ℕ} → WeighDid lifted′ a″ b″ j x a‴ b‴
-          → ended (i ∷ []) (j ∷ []) x
+          → ended (i ∷ []) (j ∷ o ∷ []) x
           ≡ asking (g .list) (g .slip) (g .pairing) words (length (g .short)) (length (g .lifted))
+          (length (g .origins))
       weighs-next v =
-          ap (ended (i ∷ []) (j ∷ [])) (v .0)
-          ∙ ap₂ (λ (f ws : List ℕ). ended (i ∷ []) (j ∷ []) (weighing (g .list) f ws)) lifted-again
+          ap (ended (i ∷ []) (j ∷ o ∷ [])) (v .0)
+          ∙ ap₂ (λ (f ws : List ℕ). ended (i ∷ []) (j ∷ o ∷ []) (weighing (g .list) f ws)) lifted-again
           (lent-again (g .a) (g .b) clear)
           ∙ sym (lift-next ∙ ap (onward (i ∷ [])) (lifts-here l))
 
       pub weigh-refused : {z : Answer} {k : ℕ} {a‴ b‴ : List ℕ} → z ≡ (k, []) → WeighDid lifted′ a″ b″ j z a‴ b‴
-          → Promised (Refused k) short′ lifted′ a‴ b‴
+          → Promised (Refused k) short′ lifted′ origins′ a‴ b‴
       weigh-refused d v = (
-        sym (ap (ended (i ∷ []) (j ∷ [])) d) ∙ weighs-next v,
+        sym (ap (ended (i ∷ []) (j ∷ o ∷ [])) d) ∙ weighs-next v,
         (outs l, (tt, clear-again (g .a) (g .b) clear (v .1))),
       )
 
       -- ---- weigh answers p
 
       keeps-all : {z : Answer} {p : ℕ} {a‴ b‴ : List ℕ} → z ≡ (0, p ∷ []) → WeighDid lifted′ a″ b″ j z a‴ b‴
-          → Told (g .list) (g .slip) (g .pairing) (take i short′) (take j lifted′) p
+          → Told (g .list) (g .slip) (g .pairing) (take i short′) (take j lifted′) (take o origins′) p
       keeps-all {p = p} d v =
-          subst (λ (f : List ℕ). Told (g .list) (g .slip) (g .pairing) f (take j lifted′) p) (sym short-is)
-          (subst (λ (f : List ℕ). Told (g .list) (g .slip) (g .pairing) short-file f p) (sym lifted-again) kept)
+          subst (λ (f : List ℕ). Told (g .list) (g .slip) (g .pairing) f (take j lifted′) (take o origins′) p)
+          (sym short-is)
+          (subst (λ (f : List ℕ). Told (g .list) (g .slip) (g .pairing) short-file f (take o origins′) p)
+          (sym lifted-again)
+          (subst (λ (f : List ℕ). Told (g .list) (g .slip) (g .pairing) short-file lift-file f p) (sym origins-again)
+          kept))
         where
           short-is : take i short′ ≡ short-file
           short-is =
@@ -244,7 +278,7 @@ module _ (g : Given) where
               ∙ file-again short-file (g .short) i
               (zero-tells .replay (g .list) (g .slip) words (length (g .short)) i (sym (r .0)) .1 .value)
 
-          kept : Told (g .list) (g .slip) (g .pairing) short-file lift-file p
+          kept : Told (g .list) (g .slip) (g .pairing) short-file lift-file origin-file p
           kept =
               let h = lift-zero in
               let three = demand-three (g .list) (g .slip) (h .0) in
@@ -257,11 +291,14 @@ module _ (g : Given) where
                     ∙ keeps .exact;
                 short-keeps = three .1;
                 lift-keeps = keeps;
+                steps = h .0 .steps;
+                named = h .0 .stand;
+                from = origin-claim (g .list) (g .slip) (h .0) (g .pairing) (h .1);
               }
 
       pub all-answered : {z : Answer} {p : ℕ} {a‴ b‴ : List ℕ} → z ≡ (0, p ∷ []) → WeighDid lifted′ a″ b″ j z a‴ b‴
-          → Promised (Answered i j p) short′ lifted′ a‴ b‴
+          → Promised (Answered i j o p) short′ lifted′ origins′ a‴ b‴
       all-answered d v = (
-        sym (ap (ended (i ∷ []) (j ∷ [])) d) ∙ weighs-next v,
+        sym (ap (ended (i ∷ []) (j ∷ o ∷ [])) d) ∙ weighs-next v,
         (outs l, (keeps-all d v, clear-again (g .a) (g .b) clear (v .1))),
       )

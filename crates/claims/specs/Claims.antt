@@ -10,24 +10,26 @@ use mathlib.Core.List.{List, [], _∷_, map}
 use Prim.Native.Nat.{ℕ, _+_, _≤_, _<_}
 use lib.ListN.{length}
 use Rattle.matching.specs.Lists.{All, together}
-use Rattle.matching.specs.Pairs.{Pair}
+use Rattle.matching.specs.Pairs.{Pair, Each}
 use Rattle.matching.specs.Pairing.{First}
 use Rattle.matching.specs.Listed.{Entry, Accepted, listed, points, shortList, filed}
 use Rattle.matching.specs.Graph.{cellsLeft}
 use Rattle.matching.specs.Steps.{Rule, Step}
 use Rattle.matching.specs.Ties.{Lifts}
+use Rattle.matching.specs.Origin.{Origins, CameFrom}
 use Rattle.matching.specs.Published.{Rule23, AllPublished}
 use Rattle.matching.specs.Slip.{AreSteps, SomeStepNot, left, carries, InTurn}
 use Rattle.cellfile.specs.Files.{storeList, largest, cellsOf, entriesAll, stepsOf, pairsOf, carriedOf, asFields}
-use Rattle.cellfile.specs.Files.{writeFile, asName}
+use Rattle.cellfile.specs.Files.{originList, originFields, readEntries, writeFile, asName}
 use Rattle.checks.specs.Refusals.{fewWords, rules, badSlip, badPairing}
 use Rattle.cellfile.specs.Answers.{Answer}
 use Rattle.weighing.specs.Weigh.{weighing}
 use Rattle.starting.specs.Steps.{graphIn, reduceSteps}
 use Rattle.reduction.specs.Calls.{shortFile, slipFile, replayShort, replaying, reducing}
-use Rattle.lifting.specs.Calls.{pairFile, solveFile, solving, liftFile, lifting, pairingFile, pairing}
+use Rattle.lifting.specs.Calls.{pairFile, solveFile, solving, liftFile, liftOrigins, lifting, pairingFile}
+use Rattle.lifting.specs.Calls.{pairingOrigins, pairing}
 use Rattle.claims.specs.Demand.{AcceptedList, storeOf, shortOf, PairingOf, HeaviestOf, Names, Writes, Allowed}
-use Rattle.claims.specs.Demand.{Liftable}
+use Rattle.claims.specs.Demand.{WritesBoth, Liftable}
 
 -- The slip and the short list that reduce writes.
 abbrev pub reduceSlip : List ℕ → List ℕ
@@ -52,8 +54,10 @@ pub record Wrote (file lent : List ℕ) (room i : ℕ) : Type 0 where
 pub record ZeroTells : Type 0 where
   pub replay : (list slip lent : List ℕ) (room i : ℕ) → replaying list slip lent room ≡ (0, i ∷ [])
       → Allowed list slip × Wrote (replayShort list slip) lent room i
-  pub lift : (list slip pairing lent : List ℕ) (room i : ℕ) → lifting list slip pairing lent room ≡ (0, i ∷ [])
+  pub lift : (list slip pairing lent : List ℕ) (room originRoom i j : ℕ)
+      → lifting list slip pairing lent room originRoom ≡ (0, i ∷ j ∷ [])
       → Allowed list slip × Liftable list slip pairing × Wrote (liftFile list slip pairing) lent room i
+      × Wrote (liftOrigins list slip pairing) lent originRoom j
   pub weigh : (list pairing lent : List ℕ) (p : ℕ) → weighing list pairing lent ≡ (0, p ∷ [])
       → AcceptedList list × (badPairing (cellsOf list) pairing ≡ false)
       × PairingOf (entriesAll list) (pairsOf pairing) × (p ≡ points (entriesAll list) (pairsOf pairing))
@@ -62,8 +66,9 @@ pub record ZeroTells : Type 0 where
       → AcceptedList list × Wrote (reduceSlip list) lent slipRoom i × Wrote (reduceShort list) lent shortRoom j
   pub solve : (list slip lent : List ℕ) (room i : ℕ) → solving list slip lent room ≡ (0, i ∷ [])
       → Allowed list slip × (leftCells list slip ≤ 12) × Wrote (solveFile list slip) lent room i
-  pub pair : (list lent : List ℕ) (room i : ℕ) → pairing list lent room ≡ (0, i ∷ [])
+  pub pair : (list lent : List ℕ) (room originRoom i j : ℕ) → pairing list lent room originRoom ≡ (0, i ∷ j ∷ [])
       → AcceptedList list × (leftCells list (reduceSlip list) ≤ 12) × Wrote (pairingFile list) lent room i
+      × Wrote (pairingOrigins list) lent originRoom j
 
 -- 8 just where 'some step of the slip is not allowed where it stands', and nothing before it is refused.
 abbrev pub Eight : (list slip : List ℕ) → (List ℕ → ℕ → Answer) → Type 0
@@ -76,13 +81,15 @@ Eight list slip call =
 -- nothing before it is refused.
 pub record RefusalsTell : Type 0 where
   pub eight : (list slip : List ℕ) → Eight list slip (replaying list slip) × Eight list slip (solving list slip)
-      × ((pairing : List ℕ) → Eight list slip (lifting list slip pairing))
-  pub ten-lift : (list slip pairing lent : List ℕ) (room : ℕ) → (lifting list slip pairing lent room ≡ (10, []))
+      × ((pairing : List ℕ) (originRoom : ℕ)
+      → Eight list slip (λ lent room. lifting list slip pairing lent room originRoom))
+  pub ten-lift : (list slip pairing lent : List ℕ) (room originRoom : ℕ)
+      → (lifting list slip pairing lent room originRoom ≡ (10, []))
       ↔ ((fewWords lent ≡ false) × Allowed list slip × (badPairing (cellsOf list) pairing ≡ false)
       × (PairingOf (shortOf (replayShort list slip)) (pairsOf pairing) → ⊥))
   pub eleven-solve : (list slip lent : List ℕ) (room : ℕ) → (solving list slip lent room ≡ (11, []))
       ↔ ((fewWords lent ≡ false) × Allowed list slip × (12 < leftCells list slip))
-  pub eleven-pair : (list lent : List ℕ) (room : ℕ) → (pairing list lent room ≡ (11, []))
+  pub eleven-pair : (list lent : List ℕ) (room originRoom : ℕ) → (pairing list lent room originRoom ≡ (11, []))
       ↔ ((fewWords lent ≡ false) × AcceptedList list × (12 < leftCells list (reduceSlip list)))
 
 -- ---- the hypotheses are met
@@ -114,7 +121,8 @@ pub record SlipClaim (list : List ℕ) (ss : List Step) : Type 0 where
 pub record PairingClaim (list slip : List ℕ) (m : List Pair) : Type 0 where
   pub liftable : Liftable list slip (pairFile (cellsOf list) m)
   pub pairs : pairsOf (pairFile (cellsOf list) m) ≡ filed m
-  pub taken : Writes (lifting list slip (pairFile (cellsOf list) m)) (liftFile list slip (pairFile (cellsOf list) m))
+  pub taken : WritesBoth (lifting list slip (pairFile (cellsOf list) m))
+      (liftFile list slip (pairFile (cellsOf list) m)) (liftOrigins list slip (pairFile (cellsOf list) m))
   pub longest : length (pairFile (cellsOf list) m) ≤ 1540
 
 -- Such a file is there for every list that is well-formed, every sequence of steps that are allowed, each where it
@@ -142,23 +150,32 @@ pub record ReplayClaim (list slip : List ℕ) (ss : List Step) : Type 0 where
   pub rules : AllPublished (cellsOf list) (graphIn list) ss
   pub longest : length (replayShort list slip) ≤ 32780
 
+-- An origin list, at most 2,564 bytes, of the pairing that the way back through the steps makes of a short pairing:
+-- 'the pairing's entries', each with where the pair came from, which is 'the step whose undoing last put the pair in',
+-- or the short list where none did.
+pub record OriginClaim (list pairing lifted origins : List ℕ) (ss : List Step) : Type 0 where
+  pub cells : cellsOf origins ≡ cellsOf list
+  pub from : Origins
+  pub entries : readEntries originList origins ≡ map (originFields from) (pairsOf lifted)
+  pub came : Each (λ a b. CameFrom (graphIn list) (pairsOf pairing) a b ss (from a b)) (pairsOf lifted)
+  pub longest : length origins ≤ 2564
+
 -- What lift writes, at most 1,540 bytes: what the way back makes of the short pairing, by the best of each chain and
--- ring. Weigh answers its points.
+-- ring. Weigh answers its points. Beside it the origin list.
 pub record LiftClaim (list slip pairing : List ℕ) (ss : List Step) : Type 0 where
   pub back : (up : List Pair) × Lifts (graphIn list) ss (pairsOf pairing) up
       × (pairsOf (liftFile list slip pairing) ≡ filed up)
   pub weighs : (lent : List ℕ) → fewWords lent ≡ false → weighing list (liftFile list slip pairing) lent
       ≡ (0, (points (shortOf (replayShort list slip)) (pairsOf pairing) + carriedOf (replayShort list slip)) ∷ [])
   pub longest : length (liftFile list slip pairing) ≤ 1540
+  pub origins : OriginClaim list pairing (liftFile list slip pairing) (liftOrigins list slip pairing) ss
 
 -- ---- reduce
 
 -- The slip that reduce writes is allowed and names its steps, each the first that is allowed where it stands, and none
 -- after them; replay of that slip writes the short list that reduce writes.
 pub record ReduceClaim (list : List ℕ) : Type 0 where
-  pub writes : (lent : List ℕ) (slipRoom shortRoom : ℕ) → fewWords lent ≡ false → length (reduceSlip list) ≤ slipRoom
-      → length (reduceShort list) ≤ shortRoom
-      → reducing list lent slipRoom shortRoom ≡ (0, length (reduceSlip list) ∷ length (reduceShort list) ∷ [])
+  pub writes : WritesBoth (reducing list) (reduceSlip list) (reduceShort list)
   pub allowed : Allowed list (reduceSlip list)
   pub names : Names list (reduceSlip list) (reduceSteps list)
   pub in-turn : InTurn (cellsOf list) (graphIn list) (reduceSteps list)
@@ -181,10 +198,13 @@ pub record SolveClaim (list slip : List ℕ) : Type 0 where
 
 -- What pair writes where at most 12 cells have pairs left after reduce: what lift makes, with the slip that reduce
 -- writes, of the pairing that solve writes with that slip, so with the ties of both. It is a heaviest pairing of the
--- store, and weigh answers the points of solve's pairing in the short list plus the carried points.
+-- store, and weigh answers the points of solve's pairing in the short list plus the carried points. Beside it the
+-- origin list that lift makes, by the steps of reduce.
 pub record PairClaim (list : List ℕ) : Type 0 where
-  pub writes : leftCells list (reduceSlip list) ≤ 12 → Writes (pairing list) (pairingFile list)
-  pub composed : pairingFile list ≡ liftFile list (reduceSlip list) (solveFile list (reduceSlip list))
+  pub writes : leftCells list (reduceSlip list) ≤ 12
+      → WritesBoth (pairing list) (pairingFile list) (pairingOrigins list)
+  pub composed : (pairingFile list ≡ liftFile list (reduceSlip list) (solveFile list (reduceSlip list)))
+      × (pairingOrigins list ≡ liftOrigins list (reduceSlip list) (solveFile list (reduceSlip list)))
   pub reduced : ReduceClaim list
   pub solved : SolveClaim list (reduceSlip list)
   pub lifted : LiftClaim list (reduceSlip list) (solveFile list (reduceSlip list)) (reduceSteps list)
@@ -196,3 +216,5 @@ pub record PairClaim (list : List ℕ) : Type 0 where
             + carriedOf (reduceShort list)) ∷ [],
       )
   pub longest : length (pairingFile list) ≤ 1540
+  pub origins : OriginClaim list (solveFile list (reduceSlip list)) (pairingFile list) (pairingOrigins list)
+      (reduceSteps list)

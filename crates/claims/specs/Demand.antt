@@ -2,8 +2,8 @@
 -- `DemandThree`, at the end; law: `demand-three`, proofs/Demand. It speaks of the calls replay and lift and of the
 -- files that they read and write: the store is the entries of the list, the short list and the carried points are read
 -- from the file that replay writes, the pairs of a pairing from its file. What the calls answer and write is in the
--- crates `reduction` and `lifting`, specs/Calls; that a call which answers 0 has written its file is its promise
--- `output`. That an answer of 0 gives the hypotheses, and that they are met: see Claims.
+-- crates `reduction` and `lifting`, specs/Calls; that a call which answers 0 has written its files is its promise
+-- `output` or `outputs`. That an answer of 0 gives the hypotheses, and that they are met: see Claims.
 use mathlib.Core.Path.{_≡_}
 use mathlib.Core.Bool.{false}
 use mathlib.Core.List.{List, [], _∷_, map}
@@ -20,7 +20,7 @@ use Rattle.checks.specs.Refusals.{first, fewWords, lists, listRows, rules, badS
 use Rattle.cellfile.specs.Answers.{Answer}
 use Rattle.starting.specs.Steps.{graphIn}
 use Rattle.reduction.specs.Calls.{replayShort, replaying}
-use Rattle.lifting.specs.Calls.{liftFile, lifting}
+use Rattle.lifting.specs.Calls.{liftFile, liftOrigins, lifting}
 
 -- ---- the words
 
@@ -52,6 +52,12 @@ abbrev pub Writes : (List ℕ → ℕ → Answer) → List ℕ → Type 0
 Writes call file =
     (lent : List ℕ) (room : ℕ) → fewWords lent ≡ false → length file ≤ room
     → call lent room ≡ (0, length file ∷ [])
+
+-- The same of a call with two outputs.
+abbrev pub WritesBoth : (List ℕ → ℕ → ℕ → Answer) → (one two : List ℕ) → Type 0
+WritesBoth call one two =
+    (lent : List ℕ) (room further : ℕ) → fewWords lent ≡ false → length one ≤ room → length two ≤ further
+    → call lent room further ≡ (0, length one ∷ length two ∷ [])
 
 -- ---- the hypotheses
 
@@ -99,5 +105,5 @@ DemandThree =
     → Writes (replaying list slip) (replayShort list slip)
     × ShortKeeps list slip (replayShort list slip)
     × ((pairing : List ℕ) → Liftable list slip pairing
-    → Writes (lifting list slip pairing) (liftFile list slip pairing)
+    → WritesBoth (lifting list slip pairing) (liftFile list slip pairing) (liftOrigins list slip pairing)
     × LiftKeeps list (replayShort list slip) pairing (liftFile list slip pairing))

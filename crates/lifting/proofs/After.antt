@@ -13,6 +13,7 @@ use Rattle.matching.specs.Pairing.{Pairing}
 use Rattle.matching.specs.Graph.{Graph}
 use Rattle.matching.specs.Steps.{Step, name}
 use Rattle.matching.specs.Slip.{replay}
+use Rattle.matching.specs.Origin.{allShort}
 use Rattle.matching.proofs.Tally.{cells-most}
 use Rattle.matching.proofs.Reduce.{replay-fits}
 use Rattle.matching.proofs.Demand.{slip-graph}
@@ -22,14 +23,14 @@ use Rattle.starting.specs.Steps.{graphIn}
 use Rattle.running.specs.Running.{After}
 use Rattle.trail.specs.Trail.{Small}
 use Rattle.checks.proofs.Accepted.{accepted-list}
-use Rattle.starting.proofs.OnList.{list-graph, left-small}
+use Rattle.starting.proofs.OnList.{list-graph, left-small, steps-few}
 use Rattle.trail.proofs.Trail.{trail-room}
 use Rattle.partners.specs.Table.{Mates, TrailKept}
 use Rattle.undoing.proofs.Marking.{words-same}
 use Rattle.lifting.specs.Ending.{ReturnThere}
 use Rattle.lifting.specs.Tail.{TrailThere, after, TailThere}
 
-module _ {n t : ℕ} {w2 : List ℕ} (h : TrailThere n t w2) where
+module _ {n t count : ℕ} {w2 : List ℕ} (h : TrailThere n t count w2) where
   pub after-graph : Graph n (after h)
   after-graph =
       slip-graph (h .graph) (h .steps) (replay-fits (h .graph) (map name (h .steps)) (h .steps) (h .allowed) .0)
@@ -39,14 +40,18 @@ module _ {n t : ℕ} {w2 : List ℕ} (h : TrailThere n t w2) where
 
   -- The pairing m in the table, the trail as it was.
   abbrev pub return-there : (w1 v2 : List ℕ) (m : List Pair) → 8192 ≤ length w1 → 8192 ≤ length w2
-      → length v2 ≡ length w2 → TrailKept w2 v2 → Pairing (after h) m → Mates v2 m → ReturnThere n t w1 v2
+      → length v2 ≡ length w2 → TrailKept w2 v2 → Pairing (after h) m → Mates v2 allShort m
+      → ReturnThere n t count w1 v2
   return-there w1 v2 m room1 room2 same kept is mates = record {
     back = record {
       rooms = record { room1 = room1; room2 = omega (arith, room2, same); most = h .most };
       n = n;
       w = h .w;
       steps = h .steps;
+      from = allShort;
       pairs = m;
+      count-is = h .count-is;
+      few = omega (arith, h .few);
       cells = h .cells;
       graph = h .graph;
       allowed = h .allowed;
@@ -56,6 +61,7 @@ module _ {n t : ℕ} {w2 : List ℕ} (h : TrailThere n t w2) where
       mates = mates;
     };
     cells-are = refl;
+    from-short = refl;
   }
 
 module _ (list : List ℕ) (ok : first (listRows lists list) ≡ 0) (ss : List Step)
@@ -84,11 +90,13 @@ module _ (list : List ℕ) (ok : first (listRows lists list) ≡ 0) (ss : List S
         few,
       )
 
-  abbrev pub tail-there : TailThere n slots on-trail w1 w2
+  abbrev pub tail-there : TailThere n slots on-trail steps w1 w2
   tail-there = record {
     on = record {
       w = graphIn list;
       steps = ss;
+      count-is = a .count;
+      few = omega (arith, a .count, steps-few list ok (map name ss) ss stand);
       cells = few;
       graph = graph;
       allowed = allowed;

@@ -1,20 +1,23 @@
 -- Pairings as files. In order: a pairing of a graph of n cells is read as itself in file order (`file-in-order`,
--- `file-read`, `file-pairing`), passes refusal 9 (`file-formed`), and has at most 1,540 bytes (`file-longest`); what is
--- lifted by steps that are allowed is a pairing of the store (`lifted-pairing`), and heaviest where it was
--- (`heaviest-lifted`); what pair writes (`best-left`, `pairing-read`). Assumes nothing.
-use mathlib.Core.Path.{_≡_, sym, subst}
+-- `file-read`, `file-pairing`), passes refusal 9 (`file-formed`), and has at most 1,540 bytes (`file-longest`), its
+-- origin list at most 2,564 (`origins-longest`), and that is read again (`origins-read`); what is lifted by steps that
+-- are allowed is a pairing of the store (`lifted-pairing`), and heaviest where it was (`heaviest-lifted`); what pair
+-- writes (`best-left`, `pairing-read`). Assumes nothing.
+use mathlib.Core.Path.{_≡_, refl, sym, ap, subst}
 use mathlib.Core.Bool.{false}
 use mathlib.Core.List.{List, [], _∷_, map}
 use mathlib.Core.Option.{some}
 use Prim.Native.Nat.{ℕ, _≤_, _<_}
 use native.Mathlib.Omega.{arith}
 use lib.ListN.{length, length-map}
+use Rattle.matching.specs.Lists.{All}
 use Rattle.matching.specs.Pairs.{Pair, Points, Each}
 use Rattle.matching.specs.Pairing.{Pairing, Heaviest}
 use Rattle.matching.specs.Listed.{Entry, joined, listed, filed}
 use Rattle.matching.specs.Graph.{Graph}
 use Rattle.matching.specs.Steps.{Rule, Step, name}
 use Rattle.matching.specs.Slip.{replay, left, lift, bring}
+use Rattle.matching.specs.Origin.{Origins}
 use Rattle.matching.proofs.Sums.{each-map}
 use Rattle.matching.proofs.Put.{pair-below, pair-apart}
 use Rattle.matching.proofs.Pairing.{present}
@@ -23,17 +26,20 @@ use Rattle.matching.proofs.Entries.{joined-graph, list-pairing, list-trimmed}
 use Rattle.matching.proofs.Fits.{Stands}
 use Rattle.matching.proofs.Reduce.{replay-fits}
 use Rattle.matching.proofs.Demand.{slip-lifted, slip-brought, no-gain-no-loss}
-use Rattle.cellfile.specs.Files.{pairing as pairingLayout, cellsOf, pairsOf, pairFields, inView}
+use Rattle.cellfile.specs.Files.{pairing as pairingLayout, originList, cellsOf, pairsOf, pairFields, originFields}
+use Rattle.cellfile.specs.Files.{File, readEntries, inView}
+use Rattle.cellfile.specs.Fits.{FitsFields, FitsFile}
 use Rattle.checks.specs.Refusals.{first, lists, listRows, badPairing}
-use Rattle.cellfile.proofs.RoundTrip.{length-file}
+use Rattle.cellfile.proofs.RoundTrip.{read-write, length-file}
 use Rattle.checks.proofs.Written.{pairs-read, pairing-passes}
 use Rattle.starting.specs.Steps.{graphIn, reduceSteps}
 use Rattle.checks.proofs.Accepted.{accepted-list}
 use Rattle.starting.proofs.OnList.{list-graph, left-graph}
 use Rattle.reduction.proofs.Reducing.{reduce-allowed}
 use Rattle.partners.proofs.Tabled.{pairing-half}
-use Rattle.lifting.specs.Calls.{pairFile, graphAfter, pairingFile}
+use Rattle.lifting.specs.Calls.{pairFile, originFile, graphAfter, pairingFile}
 use Rattle.matching.specs.Solve.{solution}
+use Rattle.lifting.proofs.Pairs.{Eleven, origin-fits}
 use Rattle.solving.proofs.Solution.{solution-heaviest}
 
 -- ---- a pairing of a graph, as a file
@@ -82,6 +88,42 @@ module _ {n : ℕ} {w : Points} (le : n ≤ 1024) (g : Graph n w) where
           length-map (filed m) pairFields,
           file-half,
         )
+
+    pub origins-longest : (o : Origins) → length (originFile n o m) ≤ 2564
+    origins-longest o =
+        omega (
+          arith,
+          length-file originList (record { cells = n; extra = []; entries = map (originFields o) (filed m) }),
+          length-map (filed m) (originFields o),
+          file-half,
+        )
+
+    module _ (o : Origins) (numbers : Eleven o) where
+      abbrev origin-list : File
+      origin-list = record { cells = n; extra = []; entries = map (originFields o) (filed m) }
+
+      origin-list-fits : FitsFile originList origin-list
+      origin-list-fits = record {
+        kind = omega arith;
+        cells = omega (arith, le);
+        count = omega (arith, length-map (filed m) (originFields o), few);
+        whole-extra = refl;
+        whole-entry = refl;
+        extra = tt;
+        entries = fit (filed m)
+            (each-map (λ a b h. (omega (arith, h .0, h .1, le), omega (arith, h .1, le))) (filed m) below);
+      }
+        where
+          fit : (k : List Pair) → Each (λ a b. (a < 1024) × (b < 1024)) k
+              → All (FitsFields (originList .entry)) (map (originFields o) k)
+          fit [] h = tt
+          fit (e ∷ k) h = (origin-fits o numbers (e .0) (e .1) (h .0), fit k (h .1))
+
+      pub origins-read : (cellsOf (originFile n o m) ≡ n)
+          × (readEntries originList (originFile n o m) ≡ map (originFields o) (filed m))
+      origins-read =
+          let again = read-write originList origin-list origin-list-fits in
+          (ap (λ (f : File). f .cells) again, ap (λ (f : File). f .entries) again)
 
 -- ---- what is lifted by steps that are allowed
 

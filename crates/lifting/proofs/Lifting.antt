@@ -1,7 +1,7 @@
 -- Lift. In order: refusal 10 of a pairing (`ten-refused`), and the pairing in the table with the trail (`ten-there`,
 -- `ten-passed`); refusal 9 (`nine-refused`), and the pairing with what the steps leave (`nine-there`, `nine-passed`);
--- the first part of the call leaves a trail (`start-there`), and what is
--- brought back over it is what lift is to write (`lift-passed`). Assumes nothing.
+-- the first part of the call leaves a trail (`start-there`), and what is brought back over it is what lift is to write
+-- (`lift-passed`). Assumes nothing.
 use mathlib.Core.Path.{_≡_, refl, sym, ap, subst, _∙_}
 use mathlib.Core.Bool.{Bool, true, false, cond}
 use mathlib.Core.List.{List, [], _∷_, _++_, map}
@@ -13,7 +13,7 @@ use borrow.Author.Tests.{not-false}
 use Rattle.matching.specs.Pairs.{Points}
 use Rattle.matching.specs.Pairing.{Pairing, isPairing}
 use Rattle.matching.specs.Steps.{Rule, Step, name}
-use Rattle.matching.specs.Slip.{replay, lift}
+use Rattle.matching.specs.Slip.{replay}
 use Rattle.matching.proofs.Pairing.{is-pairing}
 use Rattle.matching.proofs.Reduce.{replay-fits}
 use Rattle.cellfile.specs.Files.{cellsOf, countOf, stepsOf, pairsOf, asName}
@@ -28,16 +28,18 @@ use Rattle.checks.specs.Answering.{Does}
 use Rattle.starting.specs.Starting.{StartDone}
 use Rattle.checks.proofs.Answering.{refused, passed}
 use Rattle.starting.proofs.OnList.{list-graph}
-use Rattle.lifting.specs.Calls.{pairFile, liftRows, liftFile, liftedFile, graphAfter}
+use Rattle.lifting.specs.Calls.{liftRows, liftFile, liftOrigins, liftedFile, liftedOrigins}
+use Rattle.lifting.specs.Calls.{graphAfter}
 use Rattle.partners.specs.Table.{Entered}
-use Rattle.lifting.specs.Ending.{ReturnThere, Returns}
+use Rattle.lifting.specs.Ending.{Change, backTo, ReturnThere, Returns}
 use Rattle.lifting.specs.Tail.{after, TailThere}
-use Rattle.lifting.specs.Lifting.{backFile, PairingThere, LiftsPairing, LiftsTail}
+use Rattle.lifting.specs.Lifting.{backFiles, PairingThere, LiftsPairing, LiftsTail}
 use Rattle.lifting.proofs.After.{return-there, tail-there}
 
 -- ---- refusal 10
 
-module _ {n e t : ℕ} {pairing : List ℕ} {k : ℕ} {w1 w2 : List ℕ} (h : PairingThere n e t pairing k w1 w2)
+module _ {n e t count : ℕ} {pairing : List ℕ} {k : ℕ} {w1 w2 : List ℕ}
+    (h : PairingThere n e t count pairing k w1 w2)
     {v2 : List ℕ} {b : Bool} (there : Entered (graphOf e w1) pairing w2 v2 b) where
   abbrev left-graph : Points
   left-graph = after (h .tail .on)
@@ -45,9 +47,9 @@ module _ {n e t : ℕ} {pairing : List ℕ} {k : ℕ} {w1 w2 : List ℕ} (h : Pa
   by-left : b ≡ noPairing left-graph (pairsOf pairing)
   by-left = there .answer ∙ ap (λ (w : Points). noPairing w (pairsOf pairing)) (h .tail .left-is)
 
-  pub ten-refused : b ≡ true → (out : List ℕ)
-      → Does (holdRow left-graph pairing ∷ []) ((backFile (h .tail .on) pairing, out, out) ∷ []) (10, [])
-  ten-refused q out = refused (holdRow left-graph pairing ∷ []) [] 0 [] says (refl, tt)
+  pub ten-refused : b ≡ true → (out from : List ℕ)
+      → Does (holdRow left-graph pairing ∷ []) (backFiles (h .tail .on) pairing (out, out) (from, from)) (10, [])
+  ten-refused q out from = refused (holdRow left-graph pairing ∷ []) [] 0 [] says (refl, (refl, tt))
     where
       says : (10, []) ≡ answer (first (holdRow left-graph pairing ∷ [])) (0 ∷ [])
       says = ap (λ (x : Bool). answer (cond x 10 0) (0 ∷ [])) (sym q ∙ by-left)
@@ -59,16 +61,16 @@ module _ {n e t : ℕ} {pairing : List ℕ} {k : ℕ} {w1 w2 : List ℕ} (h : Pa
     is : Pairing left-graph (pairsOf pairing)
     is = is-pairing left-graph (pairsOf pairing) (not-false (isPairing left-graph (pairsOf pairing)) holds-not)
 
-    abbrev entered : ReturnThere n t w1 v2
+    abbrev entered : ReturnThere n t count w1 v2
     entered =
         return-there (h .tail .on) w1 v2 (pairsOf pairing) (h .tail .holds .room1) (h .tail .holds .room2) same
         (there .aside) is (there .mates q)
 
-    pub ten-there : ReturnThere n t w1 v2
+    pub ten-there : ReturnThere n t count w1 v2
     ten-there = entered
 
-    pub ten-passed : {out out′ : List ℕ} {a : Answer} → Returns n t w1 v2 out out′ a
-        → Does (holdRow left-graph pairing ∷ []) ((backFile (h .tail .on) pairing, out, out′) ∷ []) a
+    pub ten-passed : {out from : Change} {a : Answer} → Returns n t count w1 v2 out from a
+        → Does (holdRow left-graph pairing ∷ []) (backFiles (h .tail .on) pairing out from) a
     ten-passed d = passed (holdRow left-graph pairing ∷ []) [] (omega arith, tt) none-holds (d entered)
       where
         none-holds : first (holdRow left-graph pairing ∷ []) ≡ 0
@@ -76,20 +78,21 @@ module _ {n e t : ℕ} {pairing : List ℕ} {k : ℕ} {w1 w2 : List ℕ} (h : Pa
 
 -- ---- refusal 9
 
-module _ {n e t : ℕ} {w1 w2 : List ℕ} (h : TailThere n e t w1 w2) (pairing : List ℕ) where
+module _ {n e t count : ℕ} {w1 w2 : List ℕ} (h : TailThere n e t count w1 w2) (pairing : List ℕ) where
   abbrev rows : List Row
   rows = formRow n pairing ∷ []
 
-  pub nine-refused : {k : ℕ} → (k, []) ≡ answer (first rows) (n ∷ countOf pairing ∷ []) → (out : List ℕ)
-      → Does (formRow n pairing ∷ holdRow (after (h .on)) pairing ∷ []) ((backFile (h .on) pairing, out, out) ∷ [])
-      (k, [])
-  nine-refused q out = refused rows (holdRow (after (h .on)) pairing ∷ []) n (countOf pairing ∷ []) q (refl, tt)
+  pub nine-refused : {k : ℕ} → (k, []) ≡ answer (first rows) (n ∷ countOf pairing ∷ []) → (out from : List ℕ)
+      → Does (formRow n pairing ∷ holdRow (after (h .on)) pairing ∷ [])
+      (backFiles (h .on) pairing (out, out) (from, from)) (k, [])
+  nine-refused q out from =
+      refused rows (holdRow (after (h .on)) pairing ∷ []) n (countOf pairing ∷ []) q (refl, (refl, tt))
 
   module _ {i k : ℕ} (q : (0, i ∷ k ∷ []) ≡ answer (first (formRow n pairing ∷ [])) (n ∷ countOf pairing ∷ [])) where
     accepted : (first rows ≡ 0) × (i ∷ k ∷ [] ≡ n ∷ countOf pairing ∷ [])
     accepted = answer-accepted (first rows) (i ∷ k ∷ []) (n ∷ countOf pairing ∷ []) q
 
-    abbrev formed : PairingThere n e t pairing k w1 w2
+    abbrev formed : PairingThere n e t count pairing k w1 w2
     formed = record {
       tail = h;
       file = record {
@@ -99,12 +102,11 @@ module _ {n e t : ℕ} {w1 w2 : List ℕ} (h : TailThere n e t w1 w2) (pairing :
       };
     }
 
-    pub nine-there : PairingThere n e t pairing k w1 w2
+    pub nine-there : PairingThere n e t count pairing k w1 w2
     nine-there = formed
 
-    pub nine-passed : {out out′ : List ℕ} {a : Answer} → LiftsPairing n e t pairing k w1 w2 out out′ a
-        → Does (formRow n pairing ∷ holdRow (after (h .on)) pairing ∷ []) ((backFile (h .on) pairing, out, out′) ∷ [])
-        a
+    pub nine-passed : {out from : Change} {a : Answer} → LiftsPairing n e t count pairing k w1 w2 out from a
+        → Does (formRow n pairing ∷ holdRow (after (h .on)) pairing ∷ []) (backFiles (h .on) pairing out from) a
     nine-passed d = passed rows (holdRow (after (h .on)) pairing ∷ []) (omega arith, tt) (accepted .0) (d formed)
 
 -- ---- the call
@@ -114,10 +116,11 @@ abbrev rowsBy : (list pairing : List ℕ) → ℕ → Option (List Step) → Lis
 rowsBy list pairing i o =
     formRow i pairing ∷ holdRow (elim o [ none ↦ graphIn list | some ss ↦ graphAfter list ss ]) pairing ∷ []
 
-abbrev Lifts : (list pairing out out′ : List ℕ) → Answer → ℕ → Option (List Step) → Type 0
-Lifts list pairing out out′ a i o =
+abbrev Lifts : (list pairing : List ℕ) → Change → Change → Answer → ℕ → Option (List Step) → Type 0
+Lifts list pairing out from a i o =
     Does (rowsBy list pairing i o)
-    ((elim o [ none ↦ [] | some ss ↦ liftedFile list ss (pairsOf pairing) ], out, out′) ∷ []) a
+    ((elim o [ none ↦ [] | some ss ↦ liftedFile list ss (pairsOf pairing) ], out .0, out .1)
+    ∷ (elim o [ none ↦ [] | some ss ↦ liftedOrigins list ss (pairsOf pairing) ], from .0, from .1) ∷ []) a
 
 module _ (list slip : List ℕ) {n slots on-trail points steps : ℕ} {w1 w2 : List ℕ}
     (d : StartDone list (stepsOn list (stepsOf slip)) n slots on-trail points steps w1 w2) where
@@ -130,21 +133,22 @@ module _ (list slip : List ℕ) {n slots on-trail points steps : ℕ} {w1 w2 : L
       (replay-fits (list-graph list (d .accepted)) names (d .taken) (d .steps-are) .2)
       ∙ d .steps-are
 
-  abbrev start : TailThere n slots on-trail w1 w2
+  abbrev start : TailThere n slots on-trail steps w1 w2
   start = tail-there list (d .accepted) (d .taken) stand (d .cells) (d .after)
 
-  pub start-there : TailThere n slots on-trail w1 w2
+  pub start-there : TailThere n slots on-trail steps w1 w2
   start-there = start
 
   pub lift-passed : (few : Bool) → first (callRows few list ++ slipRows list slip) ≡ 0
-      → (pairing out : List ℕ) {out′ : List ℕ} {a : Answer} → LiftsTail n slots on-trail pairing w1 w2 out out′ a
-      → Does (callRows few list ++ liftRows list slip pairing) ((liftFile list slip pairing, out, out′) ∷ []) a
-  lift-passed few z pairing out {out′} {a} p =
-      passed (callRows few list ++ slipRows list slip) (rowsBy list pairing (cellsOf list) (stepsOn list (stepsOf
-      slip)))
-      (omega arith) z (subst (Lifts list pairing out out′ a (cellsOf list)) (sym (d .steps-are)) taken)
+      → (pairing : List ℕ) {out from : Change} {a : Answer} → LiftsTail n slots on-trail steps pairing w1 w2 out from a
+      → Does (callRows few list ++ liftRows list slip pairing)
+      ((liftFile list slip pairing, out .0, out .1) ∷ (liftOrigins list slip pairing, from .0, from .1) ∷ []) a
+  lift-passed few z pairing {out} {from} {a} p =
+      passed (callRows few list ++ slipRows list slip)
+      (rowsBy list pairing (cellsOf list) (stepsOn list (stepsOf slip))) (omega arith) z
+      (subst (Lifts list pairing out from a (cellsOf list)) (sym (d .steps-are)) taken)
     where
-      taken : Lifts list pairing out out′ a (cellsOf list) (some (d .taken))
+      taken : Lifts list pairing out from a (cellsOf list) (some (d .taken))
       taken =
           subst (λ (i : ℕ). Does (formRow i pairing ∷ holdRow (graphAfter list (d .taken)) pairing ∷ [])
-          ((pairFile i (lift (graphIn list) (d .taken) (pairsOf pairing)), out, out′) ∷ []) a) (d .cells) (p start)
+          (backTo i (graphIn list) (d .taken) (pairsOf pairing) out from) a) (d .cells) (p start)

@@ -1,51 +1,139 @@
--- The pairing that words make. In order: its length (`pairs-length`); refused or written by the output's room
--- (`pairs-refused`, `pairs-written`); the file of the pairs that the words stand for (`pairs-file`). Assumes nothing.
-use mathlib.Core.Path.{_≡_, refl, ap, ap₂, _∙_}
+-- The files that words make. In order: their length (`words-length`); one file refused or written by the output's room
+-- (`pairs-refused`, `pairs-written`), and two (`both-first`, `both-second`, `both-written`); the file of the pairs that
+-- the words stand for (`records-file`): a pairing (`pairs-file`), an origin list (`origins-file`). Assumes nothing.
+use mathlib.Core.Path.{_≡_, refl, sym, ap, ap₂, _∙_}
 use mathlib.Core.List.{List, [], _∷_, map}
-use Prim.Native.Nat.{ℕ, _+_, _*_, _≤_, _<_}
+use Prim.Native.Nat.{ℕ, _+_, _*_, _-_, _≤_, _<_}
 use native.Mathlib.Omega.{arith}
-use lib.ListN.{length, take, length-map}
-use lib.Seq.{length-take-le}
+use lib.ListN.{length, take, drop, length-map, length-drop}
+use lib.Seq.{length-take-le, take-all}
+use Rattle.buffers.specs.Map.{atOrigins}
 use Rattle.matching.specs.Pairs.{Pair, Each}
-use Rattle.cellfile.specs.Fields.{fields}
-use Rattle.cellfile.specs.Files.{pairing as pairingLayout, writeFile, onto, pairFields}
-use Rattle.cellfile.specs.Words.{fileOf, pairWord}
+use Rattle.matching.specs.Steps.{by-leaf, by-ring, by-chain}
+use Rattle.matching.specs.Origin.{Origin, from-short, from-step, Origins, numberIn}
+use Rattle.matching.proofs.Sums.{each-map}
+use Rattle.cellfile.specs.Fields.{fields, packed}
+use Rattle.cellfile.specs.Files.{Layout, pairing as pairingLayout, originList, writeFile, onto, pairFields}
+use Rattle.cellfile.specs.Files.{originFields, fileLength, ruleIn}
+use Rattle.cellfile.specs.Fits.{FitsFields}
+use Rattle.cellfile.specs.Words.{fileOf, Plain, pairWord, originWord}
 use Rattle.cellfile.proofs.Fields.{fields-packed}
 use Rattle.cellfile.proofs.RoundTrip.{length-file}
-use Rattle.checks.specs.Answering.{Does}
+use Rattle.cellfile.proofs.Outputs.{plain-length, plain-pairing, plain-origins}
+use Rattle.checks.specs.Answering.{Output, Does}
 use Rattle.checks.proofs.Answering.{no-room, all-room}
 use Rattle.lifting.specs.Ending.{wordsFile}
 
-pairs-length : (n r : ℕ) (w1 : List ℕ) → r ≤ length w1 → 4 + 3 * r ≡ length (wordsFile n r w1)
-pairs-length n r w1 l =
-    let ws = take r w1 in
-    omega (
-      arith,
-      length-file pairingLayout (fileOf pairingLayout n [] ws),
-      length-map ws (fields (pairingLayout .entry)),
-      length-take-le r w1 l,
-    )
+words-length : {l : Layout} {kind k : ℕ} → Plain l kind k → (n r : ℕ) (ws : List ℕ) → r ≤ length ws
+    → 4 + k * r ≡ length (wordsFile l n r ws)
+words-length {l} p n r ws h =
+    let all = take r ws in
+    let count : length (map (fields (l .entry)) all) ≡ r =
+    length-map all (fields (l .entry)) ∙ length-take-le r ws h in
+    sym (length-file l (fileOf l n [] all) ∙ ap (fileLength l n) count ∙ plain-length p n r)
+
+-- ---- one file
 
 module _ (n r : ℕ) (w1 out : List ℕ) (l : r ≤ length w1) where
-  pub pairs-refused : length out < 4 + 3 * r → Does [] ((wordsFile n r w1, out, out) ∷ []) (12, [])
-  pairs-refused m = no-room [] (wordsFile n r w1, out, out) [] (omega (arith, pairs-length n r w1 l)) (refl, tt)
+  abbrev pairs : List ℕ
+  pairs = wordsFile pairingLayout n r w1
 
-  pub pairs-written : {out′ : List ℕ} → 4 + 3 * r ≤ length out → out′ ≡ onto (wordsFile n r w1) out
-      → Does [] ((wordsFile n r w1, out, out′) ∷ []) (0, (4 + 3 * r) ∷ [])
-  pairs-written {out′} m e =
-      rw (pairs-length n r w1 l)
-      (all-room ((wordsFile n r w1, out, out′) ∷ []) (omega (arith, pairs-length n r w1 l), tt) (e, tt))
+  long : 4 + 3 * r ≡ length pairs
+  long = words-length plain-pairing n r w1 l
 
-pub pairs-file : (n r : ℕ) (w1 : List ℕ) (m : List Pair) → take r w1 ≡ map pairWord m
-    → Each (λ a b. (a < 1024) × (b < 1024)) m
-    → wordsFile n r w1 ≡ writeFile pairingLayout (record { cells = n; extra = []; entries = map pairFields m })
-pairs-file n r w1 m e h =
-    ap (λ ws. writeFile pairingLayout (fileOf pairingLayout n [] ws)) e
-    ∙ ap (λ rs. writeFile pairingLayout (record { cells = n; extra = []; entries = rs })) (again m h)
+  pub pairs-refused : length out < 4 + 3 * r → Does [] ((wordsFile pairingLayout n r w1, out, out) ∷ []) (12, [])
+  pairs-refused m = no-room [] (pairs, out, out) [] (omega (arith, long)) (refl, tt)
+
+  pub pairs-written : {out′ : List ℕ} → 4 + 3 * r ≤ length out → out′ ≡ onto (wordsFile pairingLayout n r w1) out
+      → Does [] ((wordsFile pairingLayout n r w1, out, out′) ∷ []) (0, (4 + 3 * r) ∷ [])
+  pairs-written {out′} m e = rw long (all-room ((pairs, out, out′) ∷ []) (omega (arith, long), tt) (e, tt))
+
+-- ---- two files
+
+module _ (n r : ℕ) (w1 out from : List ℕ) (few : r ≤ 512) (room : 8192 ≤ length w1) where
+  abbrev first : List ℕ
+  first = wordsFile pairingLayout n r w1
+
+  abbrev second : List ℕ
+  second = wordsFile originList n r (drop atOrigins w1)
+
+  abbrev both : List ℕ → List ℕ → List Output
+  both out′ from′ = (first, out, out′) ∷ (second, from, from′) ∷ []
+
+  long-first : 4 + 3 * r ≡ length first
+  long-first = words-length plain-pairing n r w1 (omega arith)
+
+  long-second : 4 + 5 * r ≡ length second
+  long-second = words-length plain-origins n r (drop atOrigins w1) (omega (arith, length-drop atOrigins w1))
+
+  pub both-first : length out < 4 + 3 * r → Does [] (both out from) (12, [])
+  both-first m = no-room [] (first, out, out) ((second, from, from) ∷ []) (omega (arith, long-first)) (refl, (refl, tt))
+
+  pub both-second : length from < 4 + 5 * r → Does [] (both out from) (12, [])
+  both-second m =
+      no-room ((first, out, out) ∷ []) (second, from, from) [] (omega (arith, long-second)) (refl, (refl, tt))
+
+  pub both-written : {out′ from′ : List ℕ} → 4 + 3 * r ≤ length out → 4 + 5 * r ≤ length from → out′ ≡ onto first out
+      → from′ ≡ onto (wordsFile originList n r (take (length w1 - atOrigins) (drop atOrigins w1))) from
+      → Does [] (both out′ from′) (0, (4 + 3 * r) ∷ (4 + 5 * r) ∷ [])
+  both-written {out′} {from′} l k e f =
+      rw (long-first, long-second)
+      (all-room (both out′ from′) (omega (arith, long-first), (omega (arith, long-second), tt)) (
+        e,
+        (
+          f ∙ ap (λ (ws : List ℕ). onto (wordsFile originList n r ws) from)
+              (take-all (length w1 - atOrigins) (drop atOrigins w1) (omega (arith, length-drop atOrigins w1))),
+          tt,
+        ),
+      ))
+
+-- ---- the pairs that the words stand for
+
+records-file : (l : Layout) (n r : ℕ) (ws : List ℕ) (g : Pair → List ℕ) (m : List Pair)
+    → take r ws ≡ map (λ (e : Pair). packed (l .entry) (g e)) m → Each (λ a b. FitsFields (l .entry) (g (a, b))) m
+    → wordsFile l n r ws ≡ writeFile l (record { cells = n; extra = []; entries = map g m })
+records-file l n r ws g m e h =
+    ap (λ vs. writeFile l (fileOf l n [] vs)) e
+    ∙ ap (λ rs. writeFile l (record { cells = n; extra = []; entries = rs })) (again m h)
   where
-    again : (m : List Pair) → Each (λ a b. (a < 1024) × (b < 1024)) m
-        → map (fields (pairingLayout .entry)) (map pairWord m) ≡ map pairFields m
+    again : (m : List Pair) → Each (λ a b. FitsFields (l .entry) (g (a, b))) m
+        → map (fields (l .entry)) (map (λ (e : Pair). packed (l .entry) (g e)) m) ≡ map g m
     again [] h = refl
-    again (x ∷ m) h =
-        ap₂ (λ r rs. r ∷ rs)
-        (fields-packed (pairingLayout .entry) (pairFields x) (h .0 .0, (h .0 .1, (omega arith, tt)))) (again m (h .1))
+    again (x ∷ m) h = ap₂ (λ v vs. v ∷ vs) (fields-packed (l .entry) (g x) (h .0)) (again m (h .1))
+
+-- Both cells have 10 bits.
+abbrev Ten : ℕ → ℕ → Type 0
+Ten a b = (a < 1024) × (b < 1024)
+
+pub pairs-file : (n r : ℕ) (w1 : List ℕ) (m : List Pair) → take r w1 ≡ map pairWord m → Each Ten m
+    → wordsFile pairingLayout n r w1 ≡ writeFile pairingLayout (record {
+      cells = n;
+      extra = [];
+      entries = map pairFields m;
+    })
+pairs-file n r w1 m e h =
+    records-file pairingLayout n r w1 pairFields m e (each-map (λ a b q. (q .0, (q .1, (omega arith, tt)))) m h)
+
+rule-few : (o : Origin) → ruleIn o < 8
+rule-few from-short = omega arith
+rule-few (from-step number by-leaf) = omega arith
+rule-few (from-step number by-ring) = omega arith
+rule-few (from-step number by-chain) = omega arith
+
+-- The numbers of the steps have 11 bits.
+abbrev pub Eleven : Origins → Type 0
+Eleven o = (a b : ℕ) → numberIn (o a b) < 2048
+
+pub origin-fits : (o : Origins) → Eleven o → (a b : ℕ) → (a < 1024) × (b < 1024)
+    → FitsFields (originList .entry) (originFields o (a, b))
+origin-fits o few a b q = (q .0, (q .1, (few a b, (rule-few (o a b), (omega arith, tt)))))
+
+pub origins-file : (n r : ℕ) (ws : List ℕ) (o : Origins) (m : List Pair) → Eleven o
+    → take r ws ≡ map (originWord o) m → Each Ten m
+    → wordsFile originList n r ws ≡ writeFile originList (record {
+      cells = n;
+      extra = [];
+      entries = map (originFields o) m;
+    })
+origins-file n r ws o m few e h =
+    records-file originList n r ws (originFields o) m e (each-map (origin-fits o few) m h)

@@ -48,7 +48,7 @@ module _ {n e : ℕ} {w1 w2 : List ℕ} (h : LeftThere n e w1 w2) where
     pub tail-room : length w1′ ≡ length w1 → (n ≤ 1024) × (r ≤ 512) × (512 ≤ length w1′)
     tail-room q = (h .cells, omega (arith, s .most), omega (arith, h .holds .room1))
 
-    words : wordsFile n r w1′ ≡ file
+    words : wordsFile pairingLayout n r w1′ ≡ file
     words =
         pairs-file n r w1′ (solution n w) (s .pairs)
         (each-map (λ a b p. (omega (arith, h .cells, p .0), omega (arith, h .cells, p .1))) (solution n w)
@@ -59,7 +59,8 @@ module _ {n e : ℕ} {w1 w2 : List ℕ} (h : LeftThere n e w1 w2) where
           entries = map pairFields m;
         })) (sym (solution-filed n w))
 
-    pub tail-written : (out : List ℕ) {out′ : List ℕ} {a : Answer} → Does [] ((wordsFile n r w1′, out, out′) ∷ []) a
+    pub tail-written : (out : List ℕ) {out′ : List ℕ} {a : Answer}
+        → Does [] ((wordsFile pairingLayout n r w1′, out, out′) ∷ []) a
         → Does (crowdedRow (cellsLeft n w) ∷ []) ((file, out, out′) ∷ []) a
     tail-written out {out′} {a} d =
         passed (crowdedRow (cellsLeft n w) ∷ []) [] (omega arith, tt) (rw (le-ltb 12 (cellsLeft n w) (s .few)))

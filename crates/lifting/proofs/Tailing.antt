@@ -12,7 +12,7 @@ use borrow.Author.Tests.{lt-ltb, le-ltb}
 use Rattle.matching.specs.Pairs.{Pair, Points}
 use Rattle.matching.specs.Graph.{Graph, cellsLeft}
 use Rattle.matching.specs.Steps.{Step}
-use Rattle.matching.specs.Slip.{lift}
+use Rattle.matching.specs.Origin.{allShort}
 use Rattle.matching.proofs.Sums.{each-map}
 use Rattle.matching.proofs.Put.{pair-below, pair-apart}
 use Rattle.cellfile.specs.Files.{cellsOf}
@@ -27,16 +27,16 @@ use Rattle.checks.proofs.Answering.{refused, passed}
 use Rattle.reduction.proofs.Reducing.{reduce-allowed, reduce-after}
 use Rattle.partners.specs.Table.{Mates, TrailKept, WordsThere}
 use Rattle.matching.specs.Solve.{solution}
-use Rattle.lifting.specs.Calls.{pairFile, graphAfter, pairRows, pairingFile}
+use Rattle.lifting.specs.Calls.{graphAfter, pairRows, pairingFile, pairingOrigins}
 use Rattle.solving.specs.Left.{LeftThere, SolvedIn}
-use Rattle.lifting.specs.Ending.{ReturnThere, Returns}
+use Rattle.lifting.specs.Ending.{Change, backTo, ReturnThere, Returns}
 use Rattle.lifting.specs.Tail.{after, TailThere, Tails}
 use Rattle.lifting.proofs.After.{after-graph, after-small, return-there, tail-there}
 use Rattle.solving.proofs.Solution.{solution-heaviest}
 
 -- ---- the tail
 
-module _ {n e t : ℕ} {w1 w2 : List ℕ} (p : TailThere n e t w1 w2) where
+module _ {n e t count : ℕ} {w1 w2 : List ℕ} (p : TailThere n e t count w1 w2) where
   -- What is left, and its solution.
   abbrev g : Points
   g = after (p .on)
@@ -56,12 +56,12 @@ module _ {n e t : ℕ} {w1 w2 : List ℕ} (p : TailThere n e t w1 w2) where
   }
 
   -- more than 12 cells
-  pub tail-crowded : (out : List ℕ) → 12 < cellsLeft n (graphOf e w1)
-      → Does (crowdedRow (cellsLeft n g) ∷ []) ((pairFile n (lift (p .on .w) (p .on .steps) best), out, out) ∷ [])
+  pub tail-crowded : (out from : List ℕ) → 12 < cellsLeft n (graphOf e w1)
+      → Does (crowdedRow (cellsLeft n g) ∷ []) (backTo n (p .on .w) (p .on .steps) best (out, out) (from, from))
       (11, [])
-  tail-crowded out l =
+  tail-crowded out from l =
       let k : 12 < cellsLeft n g = subst (λ (v : Points). 12 < cellsLeft n v) (p .left-is) l in
-      refused (crowdedRow (cellsLeft n g) ∷ []) [] 0 [] (rw (lt-ltb 12 (cellsLeft n g) k)) (refl, tt)
+      refused (crowdedRow (cellsLeft n g) ∷ []) [] 0 [] (rw (lt-ltb 12 (cellsLeft n g) k)) (refl, (refl, tt))
 
   -- solved
   module _ {r : ℕ} {w1a w2a : List ℕ} (same1 : length w1a ≡ length w1) (same2 : length w2a ≡ length w2)
@@ -82,19 +82,18 @@ module _ {n e t : ℕ} {w1 w2 : List ℕ} (p : TailThere n e t w1 w2) where
       once = solution-heaviest n g left-graph .pairing .once;
     }
 
-    module _ {w2b : List ℕ} (same3 : length w2b ≡ length w2a) (m : Mates w2b best × TrailKept w2a w2b) where
-      abbrev back : ReturnThere n t w1a w2b
+    module _ {w2b : List ℕ} (same3 : length w2b ≡ length w2a) (m : Mates w2b allShort best × TrailKept w2a w2b) where
+      abbrev back : ReturnThere n t count w1a w2b
       back =
           return-there (p .on) w1a w2b best (omega (arith, p .holds .room1)) (p .holds .room2) (omega arith)
           (λ j l. m .1 j l ∙ solved .aside j (omega arith)) (solution-heaviest n g left-graph .pairing) (m .0)
 
-      pub tail-returns : ReturnThere n t w1a w2b
+      pub tail-returns : ReturnThere n t count w1a w2b
       tail-returns = back
 
-      pub tail-passed : (out : List ℕ) {out′ : List ℕ} {a : Answer} → Returns n t w1a w2b out out′ a
-          → Does (crowdedRow (cellsLeft n g) ∷ []) ((pairFile n (lift (p .on .w) (p .on .steps) best), out, out′) ∷ [])
-          a
-      tail-passed out d =
+      pub tail-passed : {out from : Change} {a : Answer} → Returns n t count w1a w2b out from a
+          → Does (crowdedRow (cellsLeft n g) ∷ []) (backTo n (p .on .w) (p .on .steps) best out from) a
+      tail-passed d =
           passed (crowdedRow (cellsLeft n g) ∷ []) [] (omega arith, tt)
           (rw (le-ltb 12 (cellsLeft n g) (solved .few))) (d back)
 
@@ -105,21 +104,21 @@ module _ (list : List ℕ) {n slots on-trail points steps : ℕ} {w1 w2 : List �
   abbrev ss : List Step
   ss = reduceSteps list
 
-  abbrev reduced : TailThere n slots on-trail w1 w2
+  abbrev reduced : TailThere n slots on-trail steps w1 w2
   reduced = tail-there list (d .accepted) ss (reduce-allowed list (d .accepted)) (d .cells) (reduce-after list d)
 
-  pub reduce-tail : TailThere n slots on-trail w1 w2
+  pub reduce-tail : TailThere n slots on-trail steps w1 w2
   reduce-tail = reduced
 
-  pub pair-passed : (few : Bool) → first (callRows few list) ≡ 0 → (out : List ℕ) {out′ : List ℕ} {a : Answer}
-      → Tails n slots on-trail w1 w2 out out′ a
+  pub pair-passed : (few : Bool) → first (callRows few list) ≡ 0 → {out from : Change} {a : Answer}
+      → Tails n slots on-trail steps w1 w2 out from a
       → Does (callRows few list ++ pairRows list)
-      ((pairingFile list, out, out′) ∷ []) a
-  pair-passed few z out {out′} {a} p =
+      ((pairingFile list, out .0, out .1) ∷ (pairingOrigins list, from .0, from .1) ∷ []) a
+  pair-passed few z {out} {from} {a} p =
       passed (callRows few list) (crowdedRow (cellsLeft (cellsOf list) (graphAfter list ss)) ∷ []) (omega arith) z
       (subst Of (d .cells) (p reduced))
     where
       Of : ℕ → Type 0
       Of i =
           Does (crowdedRow (cellsLeft i (graphAfter list ss)) ∷ [])
-          ((pairFile i (lift (graphIn list) ss (solution i (graphAfter list ss))), out, out′) ∷ []) a
+          (backTo i (graphIn list) ss (solution i (graphAfter list ss)) out from) a

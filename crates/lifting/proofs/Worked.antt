@@ -17,7 +17,7 @@ use Rattle.cellfile.proofs.Worked.{list, pairing}
 abbrev empty-slip : List ℕ
 empty-slip = 0x30 ∷ 0x04 ∷ 0x00 ∷ 0x00 ∷ []
 
-pub no-points-refused : lifting list empty-slip pairing (8192 ∷ 8192 ∷ []) 7 ≡ (10, [])
+pub no-points-refused : lifting list empty-slip pairing (8192 ∷ 8192 ∷ []) 7 9 ≡ (10, [])
 unfolding number fields readRecords listLayout entriesAll inView fewWords notAList tooLarge wrongLength strayEntry
     unordered misheaded badSlip
     badPairing isPairing joined listed

@@ -7,7 +7,9 @@ use Rattle.matching.specs.Listed.{filed}
 use Rattle.matching.specs.Graph.{cellsLeft}
 use Rattle.matching.specs.Steps.{Step}
 use Rattle.matching.specs.Slip.{left, lift}
-use Rattle.cellfile.specs.Files.{pairing as pairingLayout, cellsOf, stepsOf, pairsOf, pairFields, writeFile}
+use Rattle.matching.specs.Origin.{Origins, origins}
+use Rattle.cellfile.specs.Files.{pairing as pairingLayout, originList, cellsOf, stepsOf, pairsOf, pairFields}
+use Rattle.cellfile.specs.Files.{originFields, writeFile}
 use Rattle.checks.specs.Refusals.{Row}
 use Rattle.checks.specs.Calls.{formRow, holdRow, crowdedRow, answering}
 use Rattle.cellfile.specs.Answers.{Answer}
@@ -18,12 +20,17 @@ use Rattle.matching.specs.Solve.{solution}
 abbrev pub pairFile : ℕ → List Pair → List ℕ
 pairFile n m = writeFile pairingLayout (record { cells = n; extra = []; entries = map pairFields (filed m) })
 
--- What the calls write, their own refusals, and their answers, for the lengths of the work buffers and of the output.
+-- The origin list of a pairing: its pairs, each with where it came from.
+abbrev pub originFile : ℕ → Origins → List Pair → List ℕ
+originFile n o m = writeFile originList (record { cells = n; extra = []; entries = map (originFields o) (filed m) })
+
+-- What the calls write, their own refusals, and their answers, for the lengths of the work buffers and of the outputs.
 module _ (list : List ℕ) where
   abbrev pub cells : ℕ
   cells = cellsOf list
 
-  -- The graph that steps leave, its solution, and a pairing of it brought back to the list, as files.
+  -- The graph that steps leave, its solution, and a pairing of it brought back to the list with where its pairs came
+  -- from, as files.
   abbrev pub graphAfter : List Step → Points
   graphAfter ss = left (graphIn list) ss
 
@@ -32,6 +39,9 @@ module _ (list : List ℕ) where
 
   abbrev pub liftedFile : List Step → List Pair → List ℕ
   liftedFile ss m = pairFile cells (lift (graphIn list) ss m)
+
+  abbrev pub liftedOrigins : List Step → List Pair → List ℕ
+  liftedOrigins ss m = originFile cells (origins (graphIn list) ss m) (lift (graphIn list) ss m)
 
   -- By the steps of the slip; where one is not allowed, x, which does not count.
   abbrev pub bySteps : {A : Type 0} → List ℕ → A → (List Step → A) → A
@@ -54,23 +64,28 @@ module _ (list : List ℕ) where
   abbrev pub liftFile : List ℕ → List ℕ → List ℕ
   liftFile slip pairing = bySteps slip [] (λ ss. liftedFile ss (pairsOf pairing))
 
+  abbrev pub liftOrigins : List ℕ → List ℕ → List ℕ
+  liftOrigins slip pairing = bySteps slip [] (λ ss. liftedOrigins ss (pairsOf pairing))
+
   abbrev pub liftRows : List ℕ → List ℕ → List Row
   liftRows slip pairing =
       slipRows list slip ++ formRow cells pairing ∷ holdRow (bySteps slip (graphIn list) graphAfter) pairing ∷ []
 
-  abbrev pub lifting : List ℕ → List ℕ → List ℕ → ℕ → Answer
-  lifting slip pairing lent room =
-      answering lent list (liftRows slip pairing) ((room, liftFile slip pairing) ∷ [])
+  abbrev pub lifting : List ℕ → List ℕ → List ℕ → ℕ → ℕ → Answer
+  lifting slip pairing lent room originRoom =
+      answering lent list (liftRows slip pairing)
+      ((room, liftFile slip pairing) ∷ (originRoom, liftOrigins slip pairing) ∷ [])
 
   -- Pair: reduce, solve, lift.
   abbrev pub pairingFile : List ℕ
-  pairingFile = liftedFile reduceSteps′ (solution cells (graphAfter reduceSteps′))
-    where
-      reduceSteps′ : List Step
-      reduceSteps′ = reduceSteps list
+  pairingFile = liftedFile (reduceSteps list) (solution cells (graphAfter (reduceSteps list)))
+
+  abbrev pub pairingOrigins : List ℕ
+  pairingOrigins = liftedOrigins (reduceSteps list) (solution cells (graphAfter (reduceSteps list)))
 
   abbrev pub pairRows : List Row
   pairRows = crowdedRow (cellsLeft cells (graphAfter (reduceSteps list))) ∷ []
 
-  abbrev pub pairing : List ℕ → ℕ → Answer
-  pairing lent room = answering lent list pairRows ((room, pairingFile) ∷ [])
+  abbrev pub pairing : List ℕ → ℕ → ℕ → Answer
+  pairing lent room originRoom =
+      answering lent list pairRows ((room, pairingFile) ∷ (originRoom, pairingOrigins) ∷ [])

@@ -4,23 +4,25 @@ use mathlib.Core.Path.{_≡_}
 use mathlib.Core.List.{List, [], _∷_, map}
 use mathlib.Core.Option.{some}
 use Prim.Native.Nat.{ℕ, _≤_}
-use lib.ListN.{take}
+use lib.ListN.{length, take}
 use Rattle.matching.specs.Pairs.{Points}
 use Rattle.matching.specs.Graph.{Graph, cellsLeft}
 use Rattle.matching.specs.Steps.{Step, name}
-use Rattle.matching.specs.Slip.{replay, left, lift}
+use Rattle.matching.specs.Slip.{replay, left}
 use Rattle.checks.specs.Calls.{crowdedRow}
 use Rattle.cellfile.specs.Answers.{Answer}
 use Rattle.slots.specs.Slots.{Holds, graphOf}
 use Rattle.trail.specs.Trail.{trail, Small}
 use Rattle.checks.specs.Answering.{Does}
-use Rattle.lifting.specs.Calls.{pairFile}
+use Rattle.lifting.specs.Ending.{Change, backTo}
 use Rattle.matching.specs.Solve.{solution}
 
--- The trail of t words of steps that are allowed on a graph of n cells.
-pub record TrailThere (n t : ℕ) (w2 : List ℕ) : Type 0 where
+-- The trail of t words of steps, so many, that are allowed on a graph of n cells.
+pub record TrailThere (n t count : ℕ) (w2 : List ℕ) : Type 0 where
   pub w : Points
   pub steps : List Step
+  pub count-is : count ≡ length steps
+  pub few : count ≤ 1024
   pub cells : n ≤ 1024
   pub graph : Graph n w
   pub allowed : replay n w (map name steps) ≡ some steps
@@ -29,18 +31,18 @@ pub record TrailThere (n t : ℕ) (w2 : List ℕ) : Type 0 where
   pub trail : take t w2 ≡ trail w steps
 
 -- The graph that the steps leave.
-abbrev pub after : {n t : ℕ} {w2 : List ℕ} → TrailThere n t w2 → Points
+abbrev pub after : {n t count : ℕ} {w2 : List ℕ} → TrailThere n t count w2 → Points
 after h = left (h .w) (h .steps)
 
 -- The trail, and what the steps leave in e slots.
-pub record TailThere (n e t : ℕ) (w1 w2 : List ℕ) : Type 0 where
-  pub on : TrailThere n t w2
+pub record TailThere (n e t count : ℕ) (w1 w2 : List ℕ) : Type 0 where
+  pub on : TrailThere n t count w2
   pub holds : Holds e w1 w2
   pub left-is : graphOf e w1 ≡ after on
 
 -- The solution of what is left is brought back and written, or refusal 11 or 12 says no.
-abbrev pub Tails : (n e t : ℕ) (w1 w2 : List ℕ) (out out′ : List ℕ) → Answer → Type 0
-Tails n e t w1 w2 out out′ a =
-    (p : TailThere n e t w1 w2)
+abbrev pub Tails : (n e t count : ℕ) (w1 w2 : List ℕ) → Change → Change → Answer → Type 0
+Tails n e t count w1 w2 out from a =
+    (p : TailThere n e t count w1 w2)
     → Does (crowdedRow (cellsLeft n (after (p .on))) ∷ [])
-    ((pairFile n (lift (p .on .w) (p .on .steps) (solution n (after (p .on)))), out, out′) ∷ []) a
+    (backTo n (p .on .w) (p .on .steps) (solution n (after (p .on))) out from) a

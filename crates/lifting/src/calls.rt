@@ -1,4 +1,4 @@
-// Inner functions of solve and lift: see specs/Solving and specs/Lifting.
+// Inner functions of solve and lift: see specs/Lifting.
 use crate::ends;
 use checks;
 use checks::Checked;
@@ -13,7 +13,7 @@ ghost use Rattle.matching.specs.Graph.{cellsLeft};
 ghost use Rattle.slots.specs.Slots.{graphOf};
 ghost use Rattle.checks.specs.Calls.{answered, callRows, crowdedRow};
 ghost use Rattle.checks.specs.Answering.{Does, Enough};
-ghost use Rattle.lifting.specs.Calls.{pairFile, solveRows, solveFile, liftRows, liftFile};
+ghost use Rattle.lifting.specs.Calls.{pairFile, solveRows, solveFile, liftRows, liftFile, liftOrigins};
 ghost use Rattle.matching.specs.Solve.{solution};
 ghost use Rattle.solving.specs.Left.{LeftThere};
 ghost use Rattle.lifting.specs.Tail.{TailThere};
@@ -63,20 +63,22 @@ fn lift_pairing(
     n: usize,
     e: usize,
     t: usize,
+    steps: usize,
     pairing: &[u8],
     k: usize,
     w1: &mut [u64],
     w2: &mut [u64],
     out: &mut [u8],
+    origins: &mut [u8],
 ) -> Lengths
-    requires { ⌜ PairingThere n e t (now pairing) k (now w1) (now w2) ⌝ }
-    ensures { λ a. ⌜ LiftsPairing n e t (now (pairing .entry)) k (now (w1 .entry)) (now (w2 .entry))
-        (now (out .entry)) (now (out .exit)) (answered a) ⌝ }
+    requires { ⌜ PairingThere n e t steps (now pairing) k (now w1) (now w2) ⌝ }
+    ensures { λ a. ⌜ LiftsPairing n e t steps (now (pairing .entry)) k (now (w1 .entry)) (now (w2 .entry))
+        (now (out .entry), now (out .exit)) (now (origins .entry), now (origins .exit)) (answered a) ⌝ }
 {
     if partners::enter(pairing, k, w1, w2, e) {
         return Lengths::Refused(10);
     }
-    ends::bring_back(n, t, w1, w2, out)
+    ends::bring_back(n, t, steps, w1, w2, out, origins)
 }
 
 // Refusals 9, 10 and 12, and the pairing of the graph in e slots brought back over the trail of t words.
@@ -84,18 +86,22 @@ fn lift_tail(
     n: usize,
     e: usize,
     t: usize,
+    steps: usize,
     pairing: &[u8],
     w1: &mut [u64],
     w2: &mut [u64],
     out: &mut [u8],
+    origins: &mut [u8],
 ) -> Lengths
-    requires { ⌜ TailThere n e t (now w1) (now w2) ⌝ }
-    ensures { λ a. ⌜ LiftsTail n e t (now (pairing .entry)) (now (w1 .entry)) (now (w2 .entry))
-        (now (out .entry)) (now (out .exit)) (answered a) ⌝ }
+    requires { ⌜ TailThere n e t steps (now w1) (now w2) ⌝ }
+    ensures { λ a. ⌜ LiftsTail n e t steps (now (pairing .entry)) (now (w1 .entry)) (now (w2 .entry))
+        (now (out .entry), now (out .exit)) (now (origins .entry), now (origins .exit)) (answered a) ⌝ }
 {
     match checks::check_pairing(pairing, n) {
         Checked::Refused(k) => Lengths::Refused(k),
-        Checked::Accepted { n: _, m: k } => lift_pairing(n, e, t, pairing, k, w1, w2, out),
+        Checked::Accepted { n: _, m: k } => {
+            lift_pairing(n, e, t, steps, pairing, k, w1, w2, out, origins)
+        }
     }
 }
 
@@ -108,6 +114,7 @@ pub fn lift_in(
     w1: &mut [u64],
     w2: &mut [u64],
     lifted: &mut [u8],
+    origins: &mut [u8],
 ) -> Lengths
     requires { ⌜ Enough few (now w1) (now w2) ⌝ }
     ensures { λ r. ⌜ Does (callRows few (now (list .entry))
@@ -116,6 +123,10 @@ pub fn lift_in(
           liftFile (now (list .entry)) (now (slip .entry)) (now (pairing .entry)),
           now (lifted .entry),
           now (lifted .exit),
+        ) ∷ (
+          liftOrigins (now (list .entry)) (now (slip .entry)) (now (pairing .entry)),
+          now (origins .entry),
+          now (origins .exit),
         ) ∷ [])
         (answered r) ⌝ }
 {
@@ -126,7 +137,7 @@ pub fn lift_in(
             slots,
             trail,
             carried: _,
-            steps: _,
-        } => lift_tail(n, slots, trail, pairing, w1, w2, lifted),
+            steps,
+        } => lift_tail(n, slots, trail, steps, pairing, w1, w2, lifted, origins),
     }
 }

@@ -13,7 +13,7 @@ use lib.Dec.{ltb}
 use lib.ListN.{length}
 use Rattle.matching.specs.Lists.{mem, All}
 use Rattle.matching.specs.Pairs.{Pair, Points, sum, hit, same, like, without}
-use Rattle.matching.specs.Pairing.{mate, partner, First, Pairing, Heaviest}
+use Rattle.matching.specs.Pairing.{seen, partner, First, Pairing, Heaviest}
 use Rattle.matching.specs.Graph.{Graph}
 use Rattle.matching.specs.Solve.{less, tries, solve}
 use Rattle.matching.proofs.Tests.{Test, pass, fail, isT, eqT, ltT, andT, passes, fails}
@@ -22,7 +22,7 @@ use Rattle.matching.proofs.Alls.{all-mem, all-members, Ascends}
 use Rattle.matching.proofs.Sums.{sum-none, each-keep, hit-none, hit-some, once-cons, without-once, without-none}
 use Rattle.matching.proofs.Sums.{like-hit}
 use Rattle.matching.proofs.Solve.{less-gone, less-past, less-length, less-ascends}
-use Rattle.matching.proofs.Partner.{mate-left, mate-turned, partner-none, partner-view, partner-of, held-sum}
+use Rattle.matching.proofs.Partner.{seen-left, seen-turned, partner-none, partner-view, partner-of, held-sum}
 use Rattle.matching.proofs.Partner.{held-free, held-points, first-more}
 
 -- ---- pairings of a set of cells
@@ -128,8 +128,8 @@ module _ (n : ℕ) (w : Points) (g : Graph n w) (c : ℕ) (cs : List ℕ) (low :
         go (inl l) = inl (omega (arith, apart w (g .turned)))
         go (inr (e, f)) = inr (
           omega (arith, apart w (g .turned)),
-          first-more (λ d. mate d c p) k (without c p m) ((c, p) ∷ k) m (λ d. refl)
-              (λ d. apart (mate d) (mate-turned d)) f,
+          first-more (λ d. seen suc d c p) k (without c p m) ((c, p) ∷ k) m (λ d. refl)
+              (λ d. apart (seen suc d) (seen-turned suc d)) f,
         )
 
     try : (ps : List ℕ) (had : List Pair) → All (λ x. p < x) ps → Leads (p ∷ ps) had
@@ -172,7 +172,7 @@ module _ (n : ℕ) (w : Points) (g : Graph n w) (c : ℕ) (cs : List ℕ) (low :
             → Leads ps (cond t ((c, p) ∷ k) had)
         go (pass h) = record {
           of = put-in p k q (h .0) (best .0);
-          sooner = λ x v. omega (arith, mate-left c p, free, all-mem (λ x. p < x) ps asc x v);
+          sooner = λ x v. omega (arith, seen-left suc c p, free, all-mem (λ x. p < x) ps asc x v);
           beats = λ m r. heavier (h .1) m r (either p ps m r);
         }
         go (fail h) = record {

@@ -39,6 +39,7 @@ pub mod More
 -- Slips, reduce, and demand 3.
 pub mod Reduce
 pub mod Behind
+pub mod Origin
 pub mod Demand
 -- Solving.
 pub mod Solve

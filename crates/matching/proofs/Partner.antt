@@ -1,49 +1,61 @@
--- The partner of a cell in a pairing, as a number. In order: 0 for none and the partner's number and 1 otherwise
--- (`partner-none`, `partner-of`); a pair that is held, and the others; which of two pairings comes first by its
--- partners, with the same pairs put in (`first-more`). Assumes nothing.
-use mathlib.Core.Path.{_≡_, refl, ap, ap₂}
+-- The partner of a cell in a pairing, as a number. In order: 0 for none and what is said of the partner otherwise
+-- (`seen-none`, `seen-of`), so the partner's number and 1 (`partner-none`, `partner-of`); a pair that is held, and the
+-- others; which of two pairings comes first by its partners, with the same pairs put in (`first-more`). Assumes
+-- nothing.
+use mathlib.Core.Path.{_≡_, refl, ap, ap₂, _∙_}
 use mathlib.Core.Logic.{_⊎_, inl, inr, _≢_}
 use mathlib.Core.Bool.{Bool, true, false, cond}
 use mathlib.Core.List.{List, [], _∷_}
 use Prim.Native.Nat.{ℕ, suc, _+_, _≤_, _<_}
 use native.Mathlib.Omega.{arith}
 use lib.Dec.{eqb}
-use borrow.Author.Tests.{eq-eqb}
+use borrow.Author.Tests.{eq-eqb, ne-eqb}
 use Rattle.matching.specs.Pairs.{Pair, Points, ι, sum, Each, hit, like, without}
-use Rattle.matching.specs.Pairing.{Once, mate, partner, First}
+use Rattle.matching.specs.Pairing.{Once, seen, partner, First}
 use Rattle.matching.proofs.Tests.{Test, pass, fail, eqT}
 use Rattle.matching.proofs.Pairs.{Same, Apart, sameT}
 use Rattle.matching.proofs.Sums.{times-one, sum-apart, sum-none, each-zero, hit-none, like-self, like-turned}
 use Rattle.matching.proofs.Sums.{like-once, like-hit}
 
--- ---- the partner of a cell
+-- ---- what is seen of the partner of a cell
 
-pub mate-left : (c b : ℕ) → mate c c b ≡ suc b
-unfolding mate
-mate-left c b = rw (eq-eqb c c refl)
+module _ (f : ℕ → ℕ) (c : ℕ) where
+  pub seen-left : (b : ℕ) → seen f c c b ≡ f b
+  unfolding seen
+  seen-left b = rw (eq-eqb c c refl)
 
-pub mate-turned : (c a b : ℕ) → mate c a b ≡ mate c b a
-unfolding mate
-mate-turned c a b = go (eqT a c) (eqT b c)
-  where
-    go : {s t : Bool} → Test (a ≡ c) (a ≢ c) s → Test (b ≡ c) (b ≢ c) t
-        → cond s (suc b) (cond t (suc a) 0) ≡ cond t (suc a) (cond s (suc b) 0)
-    go (pass p) (pass q) = omega arith
-    go (pass p) (fail q) = refl
-    go (fail p) (pass q) = refl
-    go (fail p) (fail q) = refl
+  pub seen-turned : (a b : ℕ) → seen f c a b ≡ seen f c b a
+  unfolding seen
+  seen-turned a b = go (eqT a c) (eqT b c)
+    where
+      go : {s t : Bool} → Test (a ≡ c) (a ≢ c) s → Test (b ≡ c) (b ≢ c) t
+          → cond s (f b) (cond t (f a) 0) ≡ cond t (f a) (cond s (f b) 0)
+      go (pass p) (pass q) = rw (p, q)
+      go (pass p) (fail q) = refl
+      go (fail p) (pass q) = refl
+      go (fail p) (fail q) = refl
 
-mate-off : (c a b : ℕ) → hit c a b ≡ 0 → mate c a b ≡ 0
-unfolding mate hit
-mate-off c a b = go (eqb a c) (eqb b c)
-  where
-    go : (s t : Bool) → ι s + ι t ≡ 0 → cond s (suc b) (cond t (suc a) 0) ≡ 0
-    go true t h = (let z : ⊥ = omega arith in absurd z)
-    go false true h = (let z : ⊥ = omega arith in absurd z)
-    go false false h = refl
+  pub seen-right : (a : ℕ) → seen f c a c ≡ f a
+  seen-right a = seen-turned a c ∙ seen-left a
+
+  pub seen-off : (a b : ℕ) → a ≢ c → b ≢ c → seen f c a b ≡ 0
+  unfolding seen
+  seen-off a b p q = rw (ne-eqb a c p, ne-eqb b c q)
+
+  missed : (a b : ℕ) → hit c a b ≡ 0 → seen f c a b ≡ 0
+  unfolding seen hit
+  missed a b = go (eqb a c) (eqb b c)
+    where
+      go : (s t : Bool) → ι s + ι t ≡ 0 → cond s (f b) (cond t (f a) 0) ≡ 0
+      go true t h = (let z : ⊥ = omega arith in absurd z)
+      go false true h = (let z : ⊥ = omega arith in absurd z)
+      go false false h = refl
+
+  pub seen-none : (m : List Pair) → sum (hit c) m ≡ 0 → sum (seen f c) m ≡ 0
+  seen-none m h = sum-none (seen f c) missed m (each-zero (hit c) m h)
 
 pub partner-none : (c : ℕ) (m : List Pair) → sum (hit c) m ≡ 0 → partner c m ≡ 0
-partner-none c m h = sum-none (mate c) (mate-off c) m (each-zero (hit c) m h)
+partner-none c m h = seen-none suc c m h
 
 -- A cell is free, or in a pair.
 pub partner-view : (c : ℕ) (m : List Pair) → (sum (hit c) m ≡ 0) ⊎ ((b : ℕ) × (1 ≤ sum (like c b) m))
@@ -71,10 +83,13 @@ module _ (c b : ℕ) (m : List Pair) (o : Once m) (h : 1 ≤ sum (like c b) m) w
   pub held-free : (d : ℕ) → (c ≡ d) ⊎ (b ≡ d) → sum (hit d) (without c b m) ≡ 0
   held-free d q = omega (arith, o d, like-hit c b m d q)
 
+  pub seen-of : (f : ℕ → ℕ) → sum (seen f c) m ≡ f b
+  seen-of f =
+      (let z = seen-none f c (without c b m) (held-free c (inl refl)) in
+      omega (arith, held-sum (seen f c) (seen-turned f c), seen-left f c b))
+
   pub partner-of : partner c m ≡ suc b
-  partner-of =
-      (let z = partner-none c (without c b m) (held-free c (inl refl)) in
-      omega (arith, held-sum (mate c) (mate-turned c), mate-left c b))
+  partner-of = seen-of suc
 
 -- A pair that is held has points.
 pub held-points : (w : Points) → ((a b : ℕ) → w a b ≡ w b a) → (x y : ℕ) (m : List Pair) → Each (λ a b. 0 < w a b) m

@@ -23,12 +23,13 @@ pub record Heaviest (there w : Points) (m : List Pair) : Type 0 where
   pub pairing : Pairing there m
   pub most : (k : List Pair) → Pairing there k → sum w k ≤ sum w m
 
--- The partner of a cell: 0 where it has none, else the partner's number and 1.
-unfoldable pub mate : ℕ → Points
-mate c a b = cond (eqb a c) (suc b) (cond (eqb b c) (suc a) 0)
+-- What f says of the partner of the cell c in the pair a, b: 0 where the pair does not touch c.
+unfoldable pub seen : (ℕ → ℕ) → ℕ → Points
+seen f c a b = cond (eqb a c) (f b) (cond (eqb b c) (f a) 0)
 
+-- The partner of a cell: 0 where it has none, else the partner's number and 1.
 abbrev pub partner : ℕ → List Pair → ℕ
-partner c m = sum (mate c) m
+partner c m = sum (seen suc c) m
 
 -- Of two pairings s comes first, or they have the same partners. 'Look at the lowest cell whose partner differs:
 -- unpaired comes first, then the lower partner.'

@@ -8,6 +8,7 @@ use Rattle.matching.specs.Pairing.{isPairing}
 use Rattle.matching.specs.Listed.{Entry, joined, listed, points, shortList, filed}
 use Rattle.matching.specs.Steps.{Rule, by-leaf, by-ring, by-chain, Step, name}
 use Rattle.matching.specs.Slip.{replay, left, carried, carries, lift, reduce}
+use Rattle.matching.specs.Origin.{Origin, from-short, from-step, origins}
 
 -- A list of n cells, a slip or none for reduce's own, and a pairing of the short list to lift; or a pairing of the list
 -- to weigh.
@@ -21,9 +22,11 @@ pub record Lifted : Type 0 where
   pub carried : ℕ
   pub short : List Entry
   pub lifted : List Pair
+  pub from : List Origin
   pub points : ℕ
 
--- What is lifted, with what each step carries; the points weighed; or the number of the refusal.
+-- What is lifted, with what each step carries and where each pair came from; the points weighed; or the number of the
+-- refusal.
 pub data Outcome : Type 0 where
   made : Lifted → Outcome
   weighed : ℕ → Outcome
@@ -44,6 +47,7 @@ liftedBy n l m ss =
       carried = carried w ss;
       short = shortList n (left w ss);
       lifted = up;
+      from = map (λ (e : Pair). origins w ss m (e .0) (e .1)) up;
       points = points l up;
     }
 
@@ -60,18 +64,27 @@ outcome (weighing l m) = cond (isPairing (joined l) m) (weighed (points l m)) (r
 abbrev pub WorkedRow : Type 0
 WorkedRow = Case × Outcome
 
--- Reduce's own slip: its steps, what each carries and what they carry together; nothing is left; the pairing lifted.
-abbrev pub reduced : ℕ → List Entry → List (Rule × ℕ) → List ℕ → ℕ → List Pair → ℕ → WorkedRow
-reduced n l s ks k m p = (
+-- Reduce's own slip: its steps, what each carries and what they carry together; nothing is left; the pairing lifted,
+-- and where its pairs came from.
+abbrev pub reduced : ℕ → List Entry → List (Rule × ℕ) → List ℕ → ℕ → List Pair → List Origin → ℕ → WorkedRow
+reduced n l s ks k m from p = (
   lifting n l none [],
-  made (record { slip = s; carries = ks; carried = k; short = []; lifted = m; points = p }),
+  made (record { slip = s; carries = ks; carried = k; short = []; lifted = m; from = from; points = p }),
 )
 
 -- A slip of one step and a pairing of the short list.
-abbrev pub lifted : ℕ → List Entry → List (Rule × ℕ) → List Pair → ℕ → List Entry → List Pair → ℕ → WorkedRow
-lifted n l s m k short up p = (
+abbrev pub lifted : ℕ → List Entry → List (Rule × ℕ) → List Pair → ℕ → List Entry → List Pair → List Origin → ℕ
+    → WorkedRow
+lifted n l s m k short up from p = (
   lifting n l (some s) m,
-  made (record { slip = s; carries = k ∷ []; carried = k; short = short; lifted = up; points = p }),
+  made (record { slip = s; carries = k ∷ []; carried = k; short = short; lifted = up; from = from; points = p }),
+)
+
+-- The empty slip: the pairing of the list itself.
+abbrev pub unchanged : ℕ → List Entry → List Pair → List Origin → ℕ → WorkedRow
+unchanged n l m from p = (
+  lifting n l (some []) m,
+  made (record { slip = []; carries = []; carried = 0; short = l; lifted = m; from = from; points = p }),
 )
 
 abbrev pub not-allowed : ℕ → List Entry → List (Rule × ℕ) → WorkedRow
@@ -93,26 +106,38 @@ direct-short p = (0, 1, 9) ∷ (0, 3, p) ∷ (0, 4, 1) ∷ (1, 3, 9) ∷ (3, 5, 
 abbrev pub chain1 : List (Rule × ℕ)
 chain1 = (by-chain, 1) ∷ []
 
+-- The first step of a slip, by its rule.
+abbrev pub first : Rule → Origin
+first rule = from-step 1 rule
+
 -- The worked lists, in their order; then more of the rules' words.
 unfoldable pub rows : List WorkedRow
 rows =
-    reduced 4 (path 10) ((by-leaf, 0) ∷ (by-leaf, 2) ∷ []) (10 ∷ 10 ∷ []) 20 ((0, 1) ∷ (2, 3) ∷ []) 20
-    ∷ lifted 4 (path 10) chain1 ((0, 3) ∷ []) 1 short3 ((0, 1) ∷ (2, 3) ∷ []) 20
-    ∷ lifted 4 (path 10) chain1 ((0, 1) ∷ []) 1 short3 ((0, 1) ∷ []) 10
-    ∷ lifted 4 (path 10) chain1 [] 1 short3 ((1, 2) ∷ []) 1
-    ∷ reduced 3 ((0, 1, 3) ∷ (1, 2, 8) ∷ []) ((by-leaf, 0) ∷ (by-leaf, 1) ∷ []) (3 ∷ 5 ∷ []) 8 ((1, 2) ∷ []) 8
+    reduced 4 (path 10) ((by-leaf, 0) ∷ (by-leaf, 2) ∷ []) (10 ∷ 10 ∷ []) 20 ((0, 1) ∷ (2, 3) ∷ [])
+    (first by-leaf ∷ from-step 2 by-leaf ∷ []) 20
+    ∷ lifted 4 (path 10) chain1 ((0, 3) ∷ []) 1 short3 ((0, 1) ∷ (2, 3) ∷ []) (first by-chain ∷ first by-chain ∷ []) 20
+    ∷ lifted 4 (path 10) chain1 ((0, 1) ∷ []) 1 short3 ((0, 1) ∷ []) (first by-chain ∷ []) 10
+    ∷ lifted 4 (path 10) chain1 [] 1 short3 ((1, 2) ∷ []) (first by-chain ∷ []) 1
+    ∷ reduced 3 ((0, 1, 3) ∷ (1, 2, 8) ∷ []) ((by-leaf, 0) ∷ (by-leaf, 1) ∷ []) (3 ∷ 5 ∷ []) 8 ((1, 2) ∷ [])
+    (from-step 2 by-leaf ∷ []) 8
+    -- leaf 0 is undone first and puts 0, 1 in; ring 1 puts it in place of itself
     ∷ reduced 3 ((0, 1, 5) ∷ (0, 2, 4) ∷ (1, 2, 3) ∷ []) ((by-ring, 1) ∷ (by-leaf, 0) ∷ []) (3 ∷ 2 ∷ []) 5
-    ((0, 1) ∷ []) 5
+    ((0, 1) ∷ []) (first by-ring ∷ []) 5
     ∷ reduced 4 ((0, 1, 5) ∷ (0, 3, 5) ∷ (1, 2, 5) ∷ (2, 3, 5) ∷ []) ((by-ring, 1) ∷ (by-leaf, 0) ∷ [])
     (5 ∷ 5 ∷ []) 10
-    ((0, 3) ∷ (1, 2) ∷ []) 10
-    ∷ lifted 6 (direct 25) chain1 ((0, 3) ∷ []) 1 (direct-short 25) ((0, 3) ∷ (1, 2) ∷ []) 26
-    ∷ lifted 6 (direct 19) chain1 ((0, 3) ∷ []) 1 (direct-short 19) ((0, 1) ∷ (2, 3) ∷ []) 20
-    ∷ reduced 0 [] [] [] 0 [] 0
+    ((0, 3) ∷ (1, 2) ∷ []) (first by-ring ∷ first by-ring ∷ []) 10
+    -- a direct pair that is kept stays from the short list
+    ∷ lifted 6 (direct 25) chain1 ((0, 3) ∷ []) 1 (direct-short 25) ((0, 3) ∷ (1, 2) ∷ [])
+    (from-short ∷ first by-chain ∷ []) 26
+    ∷ lifted 6 (direct 19) chain1 ((0, 3) ∷ []) 1 (direct-short 19) ((0, 1) ∷ (2, 3) ∷ [])
+    (first by-chain ∷ first by-chain ∷ []) 20
+    ∷ reduced 0 [] [] [] 0 [] [] 0
+    ∷ unchanged 4 (path 10) ((0, 1) ∷ (2, 3) ∷ []) (from-short ∷ from-short ∷ []) 20
     ∷ (lifting 2 ((0, 1, 0) ∷ []) (some []) ((0, 1) ∷ []), refused 10)
     ∷ (weighing ((0, 1, 0) ∷ []) ((0, 1) ∷ []), weighed 0)
     -- the points of a chain's pair in full: 2,097,149
-    ∷ lifted 4 (path 1048575) chain1 [] 1 ((0, 1, 1048574) ∷ (0, 3, 2097149) ∷ (1, 3, 1048574) ∷ []) ((1, 2) ∷ []) 1
+    ∷ lifted 4 (path 1048575) chain1 [] 1 ((0, 1, 1048574) ∷ (0, 3, 2097149) ∷ (1, 3, 1048574) ∷ []) ((1, 2) ∷ [])
+    (first by-chain ∷ []) 1
     -- only the cell that the rule calls z: chain 2 is refused, and of the triangle only ring 1 is allowed
     ∷ not-allowed 4 (path 10) ((by-chain, 2) ∷ [])
     ∷ not-allowed 3 ((0, 1, 5) ∷ (0, 2, 4) ∷ (1, 2, 3) ∷ []) ((by-ring, 0) ∷ [])
@@ -121,14 +146,16 @@ rows =
     ∷ not-allowed 4 ((0, 1, 5) ∷ (0, 2, 4) ∷ (0, 3, 1) ∷ (1, 2, 3) ∷ []) ((by-chain, 1) ∷ [])
     -- the ring step at the lowest z, not at the lowest cell of a ring
     ∷ reduced 7 ((0, 5, 1) ∷ (0, 6, 1) ∷ (1, 2, 1) ∷ (1, 3, 1) ∷ (2, 3, 1) ∷ (5, 6, 1) ∷ [])
-    ((by-ring, 2) ∷ (by-ring, 5) ∷ []) (1 ∷ 1 ∷ []) 2 ((2, 3) ∷ (5, 6) ∷ []) 2
+    ((by-ring, 2) ∷ (by-ring, 5) ∷ []) (1 ∷ 1 ∷ []) 2 ((2, 3) ∷ (5, 6) ∷ []) (first by-ring ∷ from-step 2 by-ring ∷ [])
+    2
     -- pairs of a chain that come out zero
-    ∷ lifted 4 ((0, 1, 1) ∷ (1, 2, 10) ∷ (2, 3, 1) ∷ []) chain1 [] 10 [] ((1, 2) ∷ []) 10
-    ∷ lifted 4 ((0, 1, 2) ∷ (1, 2, 3) ∷ (2, 3, 5) ∷ []) chain1 [] 3 ((0, 3, 4) ∷ (1, 3, 2) ∷ []) ((1, 2) ∷ []) 3
+    ∷ lifted 4 ((0, 1, 1) ∷ (1, 2, 10) ∷ (2, 3, 1) ∷ []) chain1 [] 10 [] ((1, 2) ∷ []) (first by-chain ∷ []) 10
+    ∷ lifted 4 ((0, 1, 2) ∷ (1, 2, 3) ∷ (2, 3, 5) ∷ []) chain1 [] 3 ((0, 3, 4) ∷ (1, 3, 2) ∷ []) ((1, 2) ∷ [])
+    (first by-chain ∷ []) 3
     -- z below both ends
     ∷ lifted 4 ((0, 1, 1) ∷ (0, 2, 9) ∷ (1, 3, 9) ∷ []) ((by-chain, 0) ∷ []) [] 1
-    ((0, 2, 8) ∷ (0, 3, 8) ∷ (2, 3, 17) ∷ []) ((0, 1) ∷ []) 1
+    ((0, 2, 8) ∷ (0, 3, 8) ∷ (2, 3, 17) ∷ []) ((0, 1) ∷ []) (first by-chain ∷ []) 1
     -- a ring is read towards u's lower neighbour in the ring
     ∷ lifted 8 ((0, 4, 1) ∷ (4, 5, 5) ∷ (4, 7, 5) ∷ (5, 6, 5) ∷ (6, 7, 5) ∷ []) ((by-ring, 5) ∷ []) ((4, 5) ∷ []) 5
-    ((0, 4, 1) ∷ (4, 5, 5) ∷ []) ((4, 7) ∷ (5, 6) ∷ []) 10
+    ((0, 4, 1) ∷ (4, 5, 5) ∷ []) ((4, 7) ∷ (5, 6) ∷ []) (first by-ring ∷ first by-ring ∷ []) 10
     ∷ []

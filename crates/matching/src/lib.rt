@@ -13,6 +13,9 @@
 //   slips     demand 3, one theorem on the whole slip: no-gain-no-loss, Demand. The bounds of points and carried
 //             points: left-bound, total-fits; no more entries than the store: short-fewer. Demand.
 //             Replaying finds just the steps that are allowed, each where it stands: replay-is, replay-not. Reduce.
+//   origins   the origin of a lifted pair is the step whose undoing last put it in, or the short list where none did:
+//             came-from; the last step is undone first: origins-last; a number is one of the slip's: origins-few.
+//             Origin.
 //   reduce    its steps are allowed: reduce-replay; they come in parts: reduce-append; each is the first that is
 //             allowed, and none is after them: reduce-in-turn. Reduce. A leaf where no lower cell is one comes first:
 //             first-leaf, Find.

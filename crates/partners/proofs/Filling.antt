@@ -5,34 +5,38 @@ use mathlib.Core.Path.{_≡_, refl, sym, ap, subst, _∙_}
 use mathlib.Core.Logic.{inl, inr, _≢_}
 use mathlib.Core.Bool.{Bool, true, false, true≢false}
 use mathlib.Core.List.{List, [], _∷_}
-use Prim.Native.Nat.{ℕ, _+_, _≤_, _<_}
+use Prim.Native.Nat.{ℕ, suc, _+_, _≤_, _<_}
 use native.Mathlib.Omega.{arith}
 use lib.Dec.{ltb}
-use lib.ListN.{length, set, drop, length-set, drop-of-length-le}
+use lib.ListN.{length, getD, set, drop, length-set, drop-of-length-le}
 use lib.Seq.{getD-set-same, getD-set-other}
 use borrow.Author.Tests.{lt-ltb, ne-eqb}
 use Rattle.buffers.specs.Map.{atTable}
 use Rattle.matching.specs.Lists.{All, distinct}
 use Rattle.matching.specs.Pairs.{Pair, ι, sum, hit}
-use Rattle.matching.specs.Pairing.{mate, partner, cells}
+use Rattle.matching.specs.Pairing.{seen, partner, cells}
 use Rattle.matching.proofs.Tests.{Test, pass, fail, eqT, ltT, passes, fails}
 use Rattle.matching.proofs.Lists.{count, Twice, distinctT}
 use Rattle.matching.proofs.Pairing.{hit-cells}
 use Rattle.matching.proofs.Sums.{ι-is, hit-none, hit-left, hit-right, hit-some}
-use Rattle.matching.proofs.Partner.{mate-left, mate-turned}
+use Rattle.matching.proofs.Partner.{seen-left, seen-right, seen-off}
 use Rattle.cellfile.specs.Files.{pairsOf, countOf}
 use Rattle.cellfile.specs.Reads.{PairRead}
 use Rattle.cellfile.specs.declared.decode.PairEntry.{PairEntry}
 use Rattle.cellfile.proofs.Walk.{pairs-count, pair-next, cells-fit}
 use Rattle.partners.specs.Table.{TrailKept}
 use Rattle.partners.specs.Entering.{Empty, Filled}
-use Rattle.partners.proofs.Tabled.{mateAt}
+use Rattle.partners.proofs.Tags.{tags-short}
 
 trail-on : (w v u : List ℕ) → TrailKept w v → TrailKept v u → TrailKept w u
 trail-on w v u p q j l = q j l ∙ p j l
 
 trail-set : (w : List ℕ) (c x : ℕ) → TrailKept w (set w (atTable + c) x)
 trail-set w c x j l = getD-set-other w (atTable + c) j x 0 (omega arith)
+
+-- The word of the table for the cell c.
+abbrev pub mateAt : List ℕ → ℕ → ℕ
+mateAt w2 c = getD w2 (atTable + c) 0
 
 -- The table with the word x at the cell c.
 table-same : (w : List ℕ) (c x : ℕ) → 8192 ≤ length w → c < 1024 → mateAt (set w (atTable + c) x) c ≡ x
@@ -86,10 +90,6 @@ some-most x = go (ltb 0 x)
 hit-both : (c a b : ℕ) → a ≡ c → b ≡ c → hit c a b ≡ 2
 unfolding hit
 hit-both c a b p q = omega (arith, ι-is a p, ι-is b q)
-
-mate-none : (c a b : ℕ) → c ≢ a → c ≢ b → mate c a b ≡ 0
-unfolding mate
-mate-none c a b p q = rw (ne-eqb a c (λ e. p (sym e)), ne-eqb b c (λ e. q (sym e)))
 
 -- Of all pairs, those before the rest are entered, since the buffer was w: the table and the rest have their partners,
 -- and hit their cells.
@@ -157,10 +157,10 @@ module _ {all rest : List Pair} {w v : List ℕ} {a b : ℕ} (p : Filling all ((
     was-b = sym (table-other v a (b + 1) b apart) ∙ zb
 
     mates-go : (c : ℕ) → c < 1024 → {s t : Bool} → Test (c ≡ a) (c ≢ a) s → Test (c ≡ b) (c ≢ b) t
-        → mateAt full c ≡ mateAt v c + mate c a b
-    mates-go c l (pass e) y = rw e (omega (arith, at-a, za, mate-left a b))
-    mates-go c l (fail n) (pass e) = rw e (omega (arith, at-b, was-b, mate-turned b a b, mate-left b a))
-    mates-go c l (fail n) (fail m) = omega (arith, at-c c n m, mate-none c a b n m)
+        → mateAt full c ≡ mateAt v c + seen suc c a b
+    mates-go c l (pass e) y = rw e (omega (arith, at-a, za, seen-left suc a b))
+    mates-go c l (fail n) (pass e) = rw e (omega (arith, at-b, was-b, seen-right suc b a))
+    mates-go c l (fail n) (fail m) = omega (arith, at-c c n m, seen-off suc c a b (λ q. n (sym q)) (λ q. m (sym q)))
 
     hits-go : (c : ℕ) → c < 1024 → {s t : Bool} → Test (c ≡ a) (c ≢ a) s → Test (c ≡ b) (c ≢ b) t
         → some (mateAt full c) ≡ some (mateAt v c) + hit c a b
@@ -186,7 +186,7 @@ fill-end : {all : List Pair} {w v : List ℕ} → Filling all [] w v → All (λ
     → Filled all w v false
 fill-end {all} {w} {v} p low = record {
   answer = rw (passes (distinctT (cells all)) once);
-  mates = λ e c l. omega (arith, p .mates c l);
+  mates = λ e c l. omega (arith, p .mates c l, tags-short c all);
   aside = p .aside;
 }
   where

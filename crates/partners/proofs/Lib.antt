@@ -1,4 +1,5 @@
 -- The laws of the table of partners.
+pub mod Tags
 pub mod Tabled
 pub mod Lacking
 pub mod Filling

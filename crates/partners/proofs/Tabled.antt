@@ -1,23 +1,25 @@
 -- The pairs of a table of partners. In order: a pairing of n cells has at most n / 2 pairs (`pairing-half`), and the
 -- words of its partners are at most n (`partner-most`); the pairs read off the partners of ascending cells are the
--- pairing in file order (`pairs-filed`); the pairs read so far, as words (`Reading`): at the start, after a cell with a
--- partner above it or another, at the end. Assumes nothing.
+-- pairing in file order (`pairs-filed`), and their records those of its origin list (`records-filed`); the pairs read
+-- so far, as words (`Reading`): at the start, after a cell with a partner above it or another, at the end. Assumes
+-- nothing.
 use mathlib.Core.Path.{_≡_, refl, sym, ap, ap₂, _∙_, fun-ext}
 use mathlib.Core.Logic.{_⊎_, inl, inr, _≢_}
 use mathlib.Core.Bool.{Bool, true, false, cond}
 use mathlib.Core.List.{List, [], _∷_, _++_, map, map-append, append-nil}
-use Prim.Native.Nat.{ℕ, zero, suc, _+_, _*_, _-_, _≤_, _<_}
+use Prim.Native.Nat.{ℕ, zero, suc, _+_, _*_, _-_, _%_, _≤_, _<_}
 use native.Mathlib.Omega.{arith}
 use native.Mathlib.Numerals.{add-one}
 use lib.Dec.{ltb}
-use lib.ListN.{length, getD, set, take, length-append}
-use lib.Seq.{take-suc-set}
+use lib.ListN.{length, getD, set, take, drop, length-append, length-drop}
+use lib.Seq.{take-suc-set, take-set-le, drop-set-lt, drop-set-add}
 use borrow.Author.Tests.{lt-ltb, le-ltb}
-use Rattle.buffers.specs.Map.{atTable}
+use Rattle.buffers.specs.Map.{atTable, atOrigins, partnerField}
 use Rattle.matching.specs.Lists.{All}
 use Rattle.matching.specs.Pairs.{Pair, Points, sum, Each, hit, like, without}
 use Rattle.matching.specs.Pairing.{Once, partner, cells}
 use Rattle.matching.specs.Listed.{filed}
+use Rattle.matching.specs.Origin.{Origins}
 use Rattle.matching.proofs.Tests.{Test, pass, fail, eqT, ltT, passes}
 use Rattle.matching.proofs.Pairs.{Same}
 use Rattle.matching.proofs.Lists.{Twice, distinctT}
@@ -25,18 +27,15 @@ use Rattle.matching.proofs.Pairing.{hit-cells}
 use Rattle.matching.proofs.Alls.{all-mem}
 use Rattle.matching.proofs.Upto.{sumTo, sumTo-at, distinct-length}
 use Rattle.matching.proofs.Sums.{sum-append, sum-none, each-map, each-append, zero-like, like-self, like-flip}
-use Rattle.matching.proofs.Sums.{like-same, like-turned, like-once, like-hit}
+use Rattle.matching.proofs.Sums.{like-turned, like-once, like-hit}
 use Rattle.matching.proofs.Filed.{InOrder, SamePairs, filed-sum, filed-in-order, in-order-same}
 use Rattle.matching.proofs.Partner.{partner-none, partner-view, partner-of, held-sum, held-free}
 use Rattle.cellfile.specs.Fields.{packed}
-use Rattle.cellfile.specs.Words.{pairWord}
-use Rattle.partners.specs.Table.{TableThere, Listed}
+use Rattle.cellfile.specs.Words.{pairWord, originWord}
+use Rattle.partners.specs.Table.{Within, recordIn, TableThere, Listed}
+use Rattle.partners.proofs.Tags.{like-within, tag-partner, tag-small, tag-record}
 
 -- ---- how many pairs, and which partners
-
--- Two cells below n.
-abbrev pub Within : ℕ → List Pair → Type 0
-Within n m = Each (λ a b. (a < n) × (b < n) × (a ≢ b)) m
 
 cells-length : (m : List Pair) → length (cells m) ≡ 2 * length m
 cells-length [] = refl
@@ -66,20 +65,6 @@ filed-length : (m : List Pair) → length (filed m) ≡ length m
 filed-length m =
     omega (arith, length-sum (filed m), length-sum m, filed-sum (λ a b. 1) (λ a b. refl) m)
 
--- the pairs that hold x, y have its cells below n
-like-within : (n x y : ℕ) (m : List Pair) → Within n m → 1 ≤ sum (like x y) m → (x < n) × (y < n)
-like-within n x y [] p h = absurd (omega arith)
-like-within n x y (e ∷ m) p h = go (ltT 0 (like x y (e .0) (e .1))) (like-within n x y m (p .1))
-  where
-    here : Same x y (e .0) (e .1) → (x < n) × (y < n)
-    here (inl q) = (omega (arith, q .0, p .0 .0), omega (arith, q .1, p .0 .1))
-    here (inr q) = (omega (arith, q .1, p .0 .1), omega (arith, q .0, p .0 .0))
-
-    go : {t : Bool} → Test (0 < like x y (e .0) (e .1)) (like x y (e .0) (e .1) ≤ 0) t
-        → (1 ≤ sum (like x y) m → (x < n) × (y < n)) → (x < n) × (y < n)
-    go (pass k) i = here (like-same x y (e .0) (e .1) k)
-    go (fail k) i = i (omega arith)
-
 pub partner-most : (n c : ℕ) (m : List Pair) → Within n m → Once m → partner c m ≤ n
 partner-most n c m p o = go (partner-view c m)
   where
@@ -88,6 +73,10 @@ partner-most n c m p o = go (partner-view c m)
     go (inr (b, h)) = omega (arith, partner-of c b m o h, like-within n c b m p h .1)
 
 -- ---- the pairs read off the partners
+
+-- The record of a pair by the table.
+abbrev recordAt : List ℕ → Pair → ℕ
+recordAt w2 e = recordIn (e .0) (getD w2 (atTable + e .0) 0)
 
 -- The cells below k whose partner, of which f gives the number and 1, is above them, each with its partner.
 abbrev pub pairAt : (ℕ → ℕ) → ℕ → List Pair
@@ -267,67 +256,114 @@ module _ (n : ℕ) (m : List Pair) (p : Within n m) (o : Once m) where
       (filed-in-order m (each-map (λ a b q. q .2) m p) o)
       (λ a b. same-pairs a b ∙ sym (filed-sum (like a b) (like-turned a b) m))
 
+-- the records that the words of the table make are those of the pairs
+records-filed : {n : ℕ} {w1 w2 : List ℕ} {o : Origins} {m : List Pair} → TableThere n w1 w2 o m → (k : ℕ) → k ≤ n
+    → map (recordAt w2) (pairsBelow (λ c. partner c m) k) ≡ map (originWord o) (pairsBelow (λ c. partner c m) k)
+records-filed t zero l = refl
+records-filed {n} {w1} {w2} {o} {m} t (suc c) l =
+    map-append (recordAt w2) (pairsBelow of c) (pairAt of c)
+    ∙ ap₂ (λ (x y : List ℕ). x ++ y) (records-filed t c (omega arith)) (one (ltT (suc c) (of c)))
+    ∙ sym (map-append (originWord o) (pairsBelow of c) (pairAt of c))
+  where
+    of : ℕ → ℕ
+    of d = partner d m
+
+    one : {s : Bool} → Test (suc c < of c) (of c ≤ suc c) s
+        → map (recordAt w2) (cond s ((c, of c - 1) ∷ []) []) ≡ map (originWord o) (cond s ((c, of c - 1) ∷ []) [])
+    one (pass k) =
+        ap (λ (x : ℕ). x ∷ [])
+        (tag-record w2 o m (t .mates) c (omega (arith, t .cells)) (t .once) (t .cells) (t .within) (omega arith))
+    one (fail k) = refl
+
 -- ---- the pairs read so far
 
--- The word of the table for the cell c.
-abbrev pub mateAt : List ℕ → ℕ → ℕ
-mateAt w2 c = getD w2 (atTable + c) 0
+-- The partner in the table's word for the cell c.
+abbrev pub mateIn : List ℕ → ℕ → ℕ
+mateIn w2 c = getD w2 (atTable + c) 0 % partnerField
 
--- The pairs of the cells below c stand as r words at the start of the first buffer.
+-- The pairs of the cells below c stand as r words at the start of the first buffer, and their records behind them.
 pub record Reading (n : ℕ) (w2 w1 : List ℕ) (c r : ℕ) : Type 0 where
   pub at : c ≤ n
   pub fewer : r ≤ c
-  pub count : r ≡ length (pairsBelow (mateAt w2) c)
-  pub pairs : take r w1 ≡ map pairWord (pairsBelow (mateAt w2) c)
+  pub count : r ≡ length (pairsBelow (mateIn w2) c)
+  pub pairs : take r w1 ≡ map pairWord (pairsBelow (mateIn w2) c)
+  pub records : take r (drop atOrigins w1) ≡ map (recordAt w2) (pairsBelow (mateIn w2) c)
 
 pub read-start : (n : ℕ) (w2 w1 : List ℕ) → Reading n w2 w1 0 0
-read-start n w2 w1 = record { at = omega arith; fewer = omega arith; count = refl; pairs = refl }
+read-start n w2 w1 =
+    record { at = omega arith; fewer = omega arith; count = refl; pairs = refl; records = refl }
 
-pub table-most : {n : ℕ} {w1 w2 : List ℕ} {m : List Pair} → TableThere n w1 w2 m → (c : ℕ) → c < n → mateAt w2 c ≤ 1024
-table-most {n} {w1} {w2} {m} t c l =
-    omega (arith, t .cells, t .mates c (omega (arith, t .cells)), partner-most n c m (t .within) (t .once))
+pub table-word : {n : ℕ} {w1 w2 : List ℕ} {o : Origins} {m : List Pair} → TableThere n w1 w2 o m → (c : ℕ) → c < n
+    → (mateIn w2 c ≤ 1024) × (getD w2 (atTable + c) 0 < partnerField * 16384)
+table-word {n} {w1} {w2} {o} {m} t c l =
+    let lc : c < 1024 = omega (arith, t .cells) in (
+      omega (
+        arith,
+        t .cells,
+        tag-partner w2 o m (t .mates) c lc (t .once) (t .cells) (t .within),
+        partner-most n c m (t .within) (t .once),
+      ),
+      tag-small w2 o m (t .mates) c lc (t .once) (t .cells) (t .within) (t .few),
+    )
 
 module _ {n c r : ℕ} {w2 w1 : List ℕ} (p : Reading n w2 w1 c r) where
   abbrev pairs : List Pair
-  pairs = pairsBelow (mateAt w2) c
+  pairs = pairsBelow (mateIn w2) c
 
   module _ (l : c < n) where
-    pub read-pair : {x : ℕ} → r < length w1 → suc c < mateAt w2 c → x ≡ c * 16384 + (mateAt w2 c - 1) * 16
-        → Reading n w2 (set w1 r x) (c + 1) (r + 1)
+    pub read-pair : {x y : ℕ} → n ≤ 1024 → 8192 ≤ length w1 → suc c < mateIn w2 c
+        → x ≡ c * 16384 + (mateIn w2 c - 1) * 16 → y ≡ recordIn c (getD w2 (atTable + c) 0)
+        → Reading n w2 (set (set w1 r x) (atOrigins + r) y) (c + 1) (r + 1)
     unfolding packed
-    read-pair {x} room k e =
-        let here : List Pair = (c, mateAt w2 c - 1) ∷ [] in
-        let one : pairAt (mateAt w2) c ≡ here = rw (lt-ltb (suc c) (mateAt w2 c) k) in
-        let word : x ≡ pairWord (c, mateAt w2 c - 1) = omega arith in
-        let words : take (suc r) (set w1 r x) ≡ map pairWord (pairs ++ here) =
-        take-suc-set w1 r x room ∙ ap₂ (λ (s : List ℕ) (v : ℕ). s ++ v ∷ []) (p .pairs) word
+    read-pair {x} {y} le room k e f =
+        let here : List Pair = (c, mateIn w2 c - 1) ∷ [] in
+        let one : pairAt (mateIn w2) c ≡ here = rw (lt-ltb (suc c) (mateIn w2 c) k) in
+        let word : x ≡ pairWord (c, mateIn w2 c - 1) = omega arith in
+        let v : List ℕ = set w1 r x in
+        let words : take (suc r) (set v (atOrigins + r) y) ≡ map pairWord (pairs ++ here) =
+        take-set-le (suc r) v (atOrigins + r) y (omega arith)
+        ∙ take-suc-set w1 r x (omega (arith, p .fewer))
+        ∙ ap₂ (λ (s : List ℕ) (z : ℕ). s ++ z ∷ []) (p .pairs) word
         ∙ sym (map-append pairWord pairs here) in
+        let behind : drop atOrigins (set v (atOrigins + r) y) ≡ set (drop atOrigins w1) r y =
+        drop-set-add atOrigins v r y
+        ∙ ap (λ (s : List ℕ). set s r y) (drop-set-lt atOrigins w1 r x (omega (arith, p .fewer))) in
+        let records : take (suc r) (drop atOrigins (set v (atOrigins + r) y)) ≡ map (recordAt w2) (pairs ++ here) =
+        ap (take (suc r)) behind
+        ∙ take-suc-set (drop atOrigins w1) r y (omega (arith, p .fewer, length-drop atOrigins w1))
+        ∙ ap₂ (λ (s : List ℕ) (z : ℕ). s ++ z ∷ []) (p .records) f
+        ∙ sym (map-append (recordAt w2) pairs here) in
         record {
           at = omega arith;
           fewer = omega (arith, p .fewer);
           count = rw (add-one r, add-one c, one) (omega (arith, p .count, length-append pairs here));
           pairs = rw (add-one r, add-one c, one) words;
+          records = rw (add-one r, add-one c, one) records;
         }
 
-    pub read-none : mateAt w2 c ≤ suc c → Reading n w2 w1 (c + 1) r
+    pub read-none : mateIn w2 c ≤ suc c → Reading n w2 w1 (c + 1) r
     read-none k =
-        let none : pairAt (mateAt w2) c ≡ [] = rw (le-ltb (suc c) (mateAt w2 c) k) in
+        let none : pairAt (mateIn w2) c ≡ [] = rw (le-ltb (suc c) (mateIn w2 c) k) in
         record {
           at = omega arith;
           fewer = omega (arith, p .fewer);
           count = rw (add-one, none, append-nil) (p .count);
           pairs = rw (add-one, none, append-nil) (p .pairs);
+          records = rw (add-one, none, append-nil) (p .records);
         }
 
-  pub read-end : n ≤ c → {w1₀ : List ℕ} {m : List Pair} → TableThere n w1₀ w2 m → Listed m w1 r
-  read-end l {w1₀} {m} t =
+  pub read-end : n ≤ c → {w1₀ : List ℕ} {o : Origins} {m : List Pair} → TableThere n w1₀ w2 o m → Listed o m w1 r
+  read-end l {w1₀} {o} {m} t =
       let q : c ≡ n = omega (arith, p .at) in
-      let all : pairsBelow (mateAt w2) c ≡ filed m =
-      rw q (pairs-agree (mateAt w2) (λ d. partner d m) n (λ d k. t .mates d (omega (arith, t .cells)))
-      ∙ pairs-filed n m (t .within) (t .once)) in
+      let mates : pairsBelow (mateIn w2) c ≡ pairsBelow (λ d. partner d m) n =
+      rw q (pairs-agree (mateIn w2) (λ d. partner d m) n
+      (λ d k. tag-partner w2 o m (t .mates) d (omega (arith, t .cells)) (t .once) (t .cells) (t .within))) in
+      let all : pairsBelow (mateIn w2) c ≡ filed m = mates ∙ pairs-filed n m (t .within) (t .once) in
       let count : r ≡ length (filed m) = p .count ∙ ap length all in
       record {
         most = omega (arith, count, filed-length m, pairing-half n m (t .within) (t .once), t .cells);
         count = count;
         pairs = p .pairs ∙ ap (map pairWord) all;
+        origins = p .records ∙ ap (map (recordAt w2)) mates ∙ records-filed t n (omega arith)
+            ∙ ap (map (originWord o)) (pairs-filed n m (t .within) (t .once));
       }

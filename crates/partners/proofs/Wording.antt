@@ -12,14 +12,15 @@ use lib.ListN.{length, getD, set, drop, length-map, drop-of-length-le, List·get
 use lib.Seq.{length-take-le, drop-cons, getD-take}
 use Rattle.buffers.specs.Map.{atTable}
 use Rattle.matching.specs.Pairs.{Pair, Each, hit}
+use Rattle.matching.specs.Origin.{allShort}
 use Rattle.matching.proofs.Tests.{Test, pass, fail, eqT}
 use Rattle.matching.proofs.Sums.{hit-some}
 use Rattle.cellfile.specs.Fields.{packed}
 use Rattle.partners.specs.Table.{Mates, TrailKept, WordsThere}
 use Rattle.cellfile.specs.Words.{pairWord}
 use Rattle.partners.specs.Entering.{Empty}
-use Rattle.partners.proofs.Tabled.{mateAt}
-use Rattle.partners.proofs.Filling.{Filling, fill-start, fill-next, some-not, table-other}
+use Rattle.partners.proofs.Tags.{tags-short}
+use Rattle.partners.proofs.Filling.{mateAt, Filling, fill-start, fill-next, some-not, table-other}
 
 -- The cells of a word.
 abbrev pub lowIn : ℕ → ℕ
@@ -46,11 +47,11 @@ module _ {m : List Pair} {r : ℕ} {w1 w : List ℕ} (h : WordsThere m r w1 w) w
   pub words-start : Empty w → Filling m (drop 0 m) w w
   words-start e = fill-start m w e
 
-  pub words-end : {i : ℕ} {v : List ℕ} → r ≤ i → Filling m (drop i m) w v → Mates v m × TrailKept w v
+  pub words-end : {i : ℕ} {v : List ℕ} → r ≤ i → Filling m (drop i m) w v → Mates v allShort m × TrailKept w v
   words-end {i} {v} l p =
       let none : drop i m ≡ [] = drop-of-length-le m {i = i} (omega (arith, as-many)) in
       let q : Filling m [] w v = subst (λ rest. Filling m rest w v) none p in
-      (λ c k. omega (arith, q .mates c k), q .aside)
+      (λ c k. omega (arith, q .mates c k, tags-short c m), q .aside)
 
   module _ {i : ℕ} {v : List ℕ} (l : i < r) (p : Filling m (drop i m) w v) (room : 8192 ≤ length v) where
     abbrev at : Pair

@@ -10,6 +10,7 @@ use Rattle.buffers.specs.Map.{atTable}
 use Rattle.matching.specs.Lists.{all, distinct}
 use Rattle.matching.specs.Pairs.{Pair, Points}
 use Rattle.matching.specs.Pairing.{cells}
+use Rattle.matching.specs.Origin.{allShort}
 use Rattle.partners.specs.Table.{Mates, TrailKept}
 
 -- Whether the graph has all the pairs.
@@ -23,5 +24,5 @@ Empty w2 = (c : ℕ) → c < 1024 → getD w2 (atTable + c) 0 ≡ 0
 -- The pairs entered in an empty table: whether a cell stands twice, and the partners where none does.
 pub record Filled (m : List Pair) (w2 w2′ : List ℕ) (twice : Bool) : Type 0 where
   pub answer : twice ≡ not (distinct (cells m))
-  pub mates : twice ≡ false → Mates w2′ m
+  pub mates : twice ≡ false → Mates w2′ allShort m
   pub aside : TrailKept w2 w2′

@@ -1,39 +1,65 @@
-// Inner, for weighing and lifting: a pairing into the table of partners and out of it. See specs/Table.
+// Inner, for weighing and lifting: a pairing into the table of partners, and out of it with where its pairs came from.
+// See specs/Table.
 use buffers::map::CELL_FIELD;
+use buffers::map::ORIGIN_WORDS;
 use buffers::map::PAIR_A;
 use buffers::map::PAIR_B;
+use buffers::map::PARTNER_FIELD;
 use buffers::map::TABLE;
 use cellfile::decode;
+use origins;
+use origins::PairOrigin;
 use slots::read;
 ghost use mathlib.Core.Path.{_≡_};
 ghost use mathlib.Core.Bool.{not};
 ghost use mathlib.Core.List.{List};
-ghost use Prim.Native.Nat.{ℕ, _≤_};
+ghost use Prim.Native.Nat.{ℕ, _*_, _%_, _≤_, _<_};
 ghost use lib.ListN.{length};
+ghost use Rattle.buffers.specs.Map.{partnerField};
 ghost use Rattle.matching.specs.Pairs.{Pair};
+ghost use Rattle.matching.specs.Origin.{Origins, allShort};
 ghost use Rattle.cellfile.specs.Files.{pairing as pairingLayout, pairsOf};
 ghost use Rattle.checks.specs.Loops.{WholeFile};
 ghost use Rattle.slots.specs.Slots.{Holds, graphOf};
-ghost use Rattle.partners.specs.Table.{Mates, FileThere, TrailKept, Entered, TableThere, Listed, WordsThere};
+ghost use Rattle.partners.specs.Table.{Mates, FileThere, TrailKept, Entered, recordIn, TableThere};
+ghost use Rattle.partners.specs.Table.{Listed, WordsThere};
 ghost use Rattle.partners.specs.Entering.{allThere, Empty, Filled};
 
 // The words of the table.
 const CELLS: usize = 1024;
 
-// The pairs of a table of partners of n cells in file order, as words at the start of the first buffer: their number.
+// The record of an origin list for the pair of the cell a, by the cell's word in the table.
+fn record_of(a: u64, word: u64) -> u64
+    requires { ⌜ (a < 1024) × (1 ≤ word % partnerField) × (word % partnerField ≤ 1024)
+        × (word < partnerField * 16384) ⌝ }
+    ensures { λ r. ⌜ r ≡ recordIn a word ⌝ }
+{
+    let origin = origins::origin_of(word / PARTNER_FIELD);
+    let pair = PairOrigin {
+        a,
+        b: word % PARTNER_FIELD - 1,
+        origin,
+    };
+    origins::origin_word(pair)
+}
+
+// The pairs of a table of partners of n cells in file order, as words at the start of the first buffer, and their
+// records of an origin list behind them: their number.
 pub fn list_pairs(w1: &mut [u64], w2: &[u64], n: usize) -> usize
-    requires { ⌜ ((m : List Pair) × TableThere n (now w1) (now w2) m) ⌝ }
-    ensures { λ r. ⌜ ((m : List Pair) → TableThere n (now (w1 .entry)) (now (w2 .entry)) m
-        → Listed m (now (w1 .exit)) r) ⌝ }
+    requires { ⌜ ((o : Origins) × (m : List Pair) × TableThere n (now w1) (now w2) o m) ⌝ }
+    ensures { λ r. ⌜ ((o : Origins) (m : List Pair) → TableThere n (now (w1 .entry)) (now (w2 .entry)) o m
+        → Listed o m (now (w1 .exit)) r) ⌝ }
 {
     let mut r = 0;
     let mut c = 0;
     while c < n {
-        let p = w2[TABLE + c];
+        let word = w2[TABLE + c];
+        let p = word % PARTNER_FIELD;
         let low = c as u64;
         c += 1;
         if low + 1 < p {
             w1[r] = low * PAIR_A + (p - 1) * PAIR_B;
+            w1[ORIGIN_WORDS + r] = record_of(low, word);
             r += 1;
         }
     }
@@ -118,7 +144,7 @@ pub fn enter(pairing: &[u8], k: usize, w1: &[u64], w2: &mut [u64], e: usize) -> 
 fn fill_words(w1: &[u64], r: usize, w2: &mut [u64])
     requires { ⌜ ((m : List Pair) × WordsThere m r (now w1) (now w2)) × Empty (now w2) ⌝ }
     ensures { λ _. ⌜ ((m : List Pair) → WordsThere m r (now (w1 .entry)) (now (w2 .entry))
-        → Mates (now (w2 .exit)) m × TrailKept (now (w2 .entry)) (now (w2 .exit))) ⌝ }
+        → Mates (now (w2 .exit)) allShort m × TrailKept (now (w2 .entry)) (now (w2 .exit))) ⌝ }
 {
     let mut i = 0;
     while i < r {
@@ -135,7 +161,7 @@ fn fill_words(w1: &[u64], r: usize, w2: &mut [u64])
 pub fn enter_words(w1: &[u64], r: usize, w2: &mut [u64])
     requires { ⌜ ((m : List Pair) × WordsThere m r (now w1) (now w2)) ⌝ }
     ensures { λ _. ⌜ ((m : List Pair) → WordsThere m r (now (w1 .entry)) (now (w2 .entry))
-        → Mates (now (w2 .exit)) m × TrailKept (now (w2 .entry)) (now (w2 .exit))) ⌝ }
+        → Mates (now (w2 .exit)) allShort m × TrailKept (now (w2 .entry)) (now (w2 .exit))) ⌝ }
 {
     clear_table(w2);
     fill_words(w1, r, w2);

@@ -59,7 +59,14 @@ fn write_both(
     if short.len() < short_size {
         return Lengths::Refused(12);
     }
-    write::write_slip(n, &w2[NAMES..], steps, slip);
+    write::write_words(
+        format::SLIP,
+        format::STEP_BYTES,
+        n,
+        &w2[NAMES..],
+        steps,
+        slip,
+    );
     write::write_short(n, carried, w1, r, short);
     Lengths::Two {
         first: slip_size,

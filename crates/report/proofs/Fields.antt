@@ -12,6 +12,7 @@ use Rattle.matching.specs.Listed.{Entry, joined, shortList, filed}
 use Rattle.matching.specs.Steps.{Step, name}
 use Rattle.matching.specs.Slip.{carried, lift}
 use Rattle.matching.specs.Solve.{solution}
+use Rattle.matching.specs.Origin.{origins}
 use Rattle.matching.proofs.Demand.{short-fewer}
 use Rattle.cellfile.specs.Bytes.{number}
 use Rattle.cellfile.specs.Fields.{packed, writeRecord, writeRecords}
@@ -28,8 +29,8 @@ use Rattle.starting.specs.Steps.{graphIn, reduceSteps}
 use Rattle.starting.proofs.OnList.{list-few, left-small, steps-few}
 use Rattle.reduction.specs.Calls.{slipFile, shortFile}
 use Rattle.reduction.proofs.Reducing.{reduce-allowed}
-use Rattle.lifting.specs.Calls.{graphAfter, pairingFile}
-use Rattle.lifting.proofs.Filing.{file-half, file-pairing, file-formed, file-longest, all-entries}
+use Rattle.lifting.specs.Calls.{graphAfter, pairingFile, pairingOrigins}
+use Rattle.lifting.proofs.Filing.{file-half, file-pairing, file-formed, file-longest, origins-longest, all-entries}
 use Rattle.lifting.proofs.Filing.{pairing-pairing, pairing-read}
 use Rattle.report.specs.Writing.{LinesThere}
 
@@ -142,6 +143,11 @@ module _ (list : List ℕ) (h : first (listRows lists list) ≡ 0) where
 
   pub pairing-most : length (pairingFile list) ≤ 1540
   pairing-most = file-longest few (all-entries list h) brought (pairing-pairing list h)
+
+  pub origins-most : length (pairingOrigins list) ≤ 2564
+  origins-most =
+      origins-longest few (all-entries list h) brought (pairing-pairing list h)
+      (origins (graphIn list) ss (solution n (graphAfter list ss)))
 
   -- the list and the pairing, as the loop over the pairs finds them
   pub pairs-there : {m : ℕ} → m ≡ countOf list

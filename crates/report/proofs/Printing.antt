@@ -1,6 +1,6 @@
--- What is printed, by the answers of reduce and of pair. In order: with buffers and room enough only the list's rows
--- refuse reduce (`reduce-refuses`, `reduce-passes`), and only refusal 11 pair of an accepted list (`pair-refuses`,
--- `pair-passes`). Assumes nothing.
+-- What is printed, by the answers of reduce and of pair. In order: both answer two lengths, never one (`never-one`);
+-- with buffers and room enough only the list's rows refuse reduce (`reduce-refuses`, `reduce-passes`), and only refusal
+-- 11 pair of an accepted list (`pair-refuses`, `pair-passes`). Assumes nothing.
 use mathlib.Core.Path.{_≡_, refl, sym, ap, _∙_}
 use mathlib.Core.Bool.{Bool, false, cond}
 use mathlib.Core.List.{List, [], _∷_, _++_}
@@ -15,14 +15,14 @@ use Rattle.matching.specs.Steps.{Step}
 use Rattle.cellfile.specs.Files.{cellsOf, onto}
 use Rattle.checks.specs.Refusals.{Row, first, fewWords, lists, listRows, crowded, shortOutput}
 use Rattle.cellfile.specs.Answers.{answer}
-use Rattle.checks.specs.Calls.{roomRow}
+use Rattle.checks.specs.Calls.{callRows, roomRow, answering}
 use Rattle.checks.proofs.Layers.{answer-refused, answer-accepted, first-refused, first-passed}
 use Rattle.checks.proofs.Rows.{list-none}
 use Rattle.reduction.specs.Calls.{slipFile, shortFile, reducing}
 use Rattle.starting.specs.Steps.{reduceSteps}
-use Rattle.lifting.specs.Calls.{graphAfter, pairingFile, pairing}
+use Rattle.lifting.specs.Calls.{graphAfter, pairingFile, pairingOrigins, pairing}
 use Rattle.report.specs.Printed.{line, made, refusal, printed}
-use Rattle.report.proofs.Fields.{slip-most, short-most, pairing-most}
+use Rattle.report.proofs.Fields.{slip-most, short-most, pairing-most, origins-most}
 
 -- The start of an output is the file that was written to it.
 pub written-start : (file out : List ℕ) {out′ : List ℕ} {k : ℕ} → k ≡ length file → out′ ≡ onto file out
@@ -30,6 +30,13 @@ pub written-start : (file out : List ℕ) {out′ : List ℕ} {k : ℕ} → k �
 unfolding onto
 written-start file out {out′} {k} e w =
     ap (take k) w ∙ ap (λ (i : ℕ). take i (onto file out)) e ∙ take-append-seam file _
+
+-- A call that writes two files answers two lengths, never one.
+pub never-one : (lent list : List ℕ) (own : List Row) (o p : ℕ × List ℕ) {s : ℕ}
+    → (0, s ∷ []) ≡ answering lent list own (o ∷ p ∷ []) → ⊥
+never-one lent list own o p {s} e =
+    let rows = (callRows (fewWords lent) list ++ own) ++ roomRow (o ∷ p ∷ []) ∷ [] in
+    omega (arith, ap length (answer-accepted (first rows) (s ∷ []) (length (o .1) ∷ length (p .1) ∷ []) e .1))
 
 -- A list that is refused prints its number, one that is not what is made of it.
 refused-printed : (list : List ℕ) (k : ℕ) → 0 < k → refusal list ≡ k → line "refused" (k ∷ []) ≡ printed list
@@ -96,12 +103,6 @@ module _ (list : List ℕ) (a b : ℕ) (room-a : 8192 ≤ a) (room-b : 8192 ≤ 
               ∙ sym (first-refused (listRows lists list) rows l)
               ∙ sym (r .1))
 
-    -- two lengths, never one
-    pub reduce-two : {s : ℕ} → (0, s ∷ []) ≡ reducing list (a ∷ b ∷ []) slip-room short-room → ⊥
-    reduce-two {s} e =
-        let r = answer-accepted (first (listRows lists list ++ rows)) (s ∷ []) values (e ∙ reducing-is) in
-        omega (arith, ap length (r .1))
-
     pub reduce-passes : {s t : ℕ} → (0, s ∷ t ∷ []) ≡ reducing list (a ∷ b ∷ []) slip-room short-room
         → (first (listRows lists list) ≡ 0) × (s ≡ length (slipFile list ss)) × (t ≡ length (shortFile list ss))
     reduce-passes {s} {t} e =
@@ -119,7 +120,8 @@ module _ (list : List ℕ) (a b : ℕ) (room-a : 8192 ≤ a) (room-b : 8192 ≤ 
 
   -- ---- pair of an accepted list
 
-  module _ (h : first (listRows lists list) ≡ 0) (room : ℕ) (long : 1540 ≤ room) where
+  module _ (h : first (listRows lists list) ≡ 0) (room origin-room : ℕ) (long : 1540 ≤ room)
+      (origin-long : 2564 ≤ origin-room) where
     abbrev full : Bool
     full = crowded (cellsLeft (cellsOf list) (graphAfter list ss))
 
@@ -131,36 +133,34 @@ module _ (list : List ℕ) (a b : ℕ) (room-a : 8192 ≤ a) (room-b : 8192 ≤ 
     last-rows t = (11, full) ∷ (12, t) ∷ []
 
     abbrev short : Bool
-    short = shortOutput ((room, pairingFile list) ∷ [])
+    short = shortOutput ((room, pairingFile list) ∷ (origin-room, pairingOrigins list) ∷ [])
 
     roomy-pairing : short ≡ false
     unfolding shortOutput
     roomy-pairing =
-        rw (le-ltb room (length (pairingFile list)) (omega (arith, pairing-most list h, long)))
+        rw (
+          le-ltb room (length (pairingFile list)) (omega (arith, pairing-most list h, long)),
+          le-ltb origin-room (length (pairingOrigins list)) (omega (arith, origins-most list h, origin-long)),
+        )
 
-    pairing-is : pairing list (a ∷ b ∷ []) room ≡ answer (cond full 11 0) (length (pairingFile list) ∷ [])
+    abbrev lengths : List ℕ
+    lengths = length (pairingFile list) ∷ length (pairingOrigins list) ∷ []
+
+    pairing-is : pairing list (a ∷ b ∷ []) room origin-room ≡ answer (cond full 11 0) lengths
     pairing-is =
-        ap (λ (t : Bool). answer (cond t 1 (first (listRows lists list ++ last-rows short))) values) enough
-        ∙ ap (λ (i : ℕ). answer i values)
+        ap (λ (t : Bool). answer (cond t 1 (first (listRows lists list ++ last-rows short))) lengths) enough
+        ∙ ap (λ (i : ℕ). answer i lengths)
         (first-passed (listRows lists list) (last-rows short) (list-none lists list h)
         ∙ ap (λ (t : Bool). first (last-rows t)) roomy-pairing)
-      where
-        values : List ℕ
-        values = length (pairingFile list) ∷ []
 
-    pub pair-refuses : {k : ℕ} → (k, []) ≡ pairing list (a ∷ b ∷ []) room → line "refused" (k ∷ []) ≡ printed list
+    pub pair-refuses : {k : ℕ} → (k, []) ≡ pairing list (a ∷ b ∷ []) room origin-room
+        → line "refused" (k ∷ []) ≡ printed list
     pair-refuses {k} e =
-        let r = answer-refused (cond full 11 0) k (length (pairingFile list)) [] (e ∙ pairing-is) in
+        let r = answer-refused _ k _ _ (e ∙ pairing-is) in
         refused-printed list k (omega (arith, r)) (refusal-is ∙ sym (r .1))
 
-    -- one length, never two
-    pub pair-one : {s t : ℕ} → (0, s ∷ t ∷ []) ≡ pairing list (a ∷ b ∷ []) room → ⊥
-    pair-one {s} {t} e =
-        let r = answer-accepted (cond full 11 0) (s ∷ t ∷ []) (length (pairingFile list) ∷ []) (e ∙ pairing-is) in
-        omega (arith, ap length (r .1))
-
-    pub pair-passes : {k : ℕ} → (0, k ∷ []) ≡ pairing list (a ∷ b ∷ []) room
-        → (k ≡ length (pairingFile list)) × (made list ≡ printed list)
-    pair-passes {k} e =
-        let r = answer-accepted (cond full 11 0) (k ∷ []) (length (pairingFile list) ∷ []) (e ∙ pairing-is) in
+    pub pair-passes : {s t : ℕ} → (0, s ∷ t ∷ []) ≡ pairing list (a ∷ b ∷ []) room origin-room
+        → (s ≡ length (pairingFile list)) × (made list ≡ printed list)
+    pair-passes {s} {t} e =
+        let r = answer-accepted (cond full 11 0) (s ∷ t ∷ []) lengths (e ∙ pairing-is) in
         (ap (λ (vs : List ℕ). getD vs 0 0) (r .1), made-printed list (refusal-is ∙ r .0))

@@ -37,7 +37,7 @@ fn print_made(
     text::line(text, lines.end, b"total", lines.total)
 }
 
-// Pairs a list that reduce has taken, and prints refusal 11 or the fields. Pair answers one length, never two.
+// Pairs a list that reduce has taken, and prints refusal 11 or the fields. Pair answers two lengths, never one.
 fn print_paired(
     list: &[u8],
     work_a: &mut [u64],
@@ -45,16 +45,18 @@ fn print_paired(
     slip_length: usize,
     short: &[u8],
     pairing: &mut [u8],
+    origins: &mut [u8],
     text: &mut [u8],
 ) -> usize
     requires { ⌜ ReducedThere (now list) «slip_length» (now short) × (8192 ≤ length (now «work_a»))
-        × (8192 ≤ length (now «work_b»)) × (1540 ≤ length (now pairing)) × (36864 ≤ length (now text)) ⌝ }
+        × (8192 ≤ length (now «work_b»)) × (1540 ≤ length (now pairing)) × (2564 ≤ length (now origins))
+        × (36864 ≤ length (now text)) ⌝ }
     ensures { λ r. ⌜ Made (printed (now (list .entry))) (now (text .exit)) r ⌝ }
 {
-    match lifting::pair(list, work_a, work_b, pairing) {
+    match lifting::pair(list, work_a, work_b, pairing, origins) {
         Lengths::Refused(k) => text::line(text, 0, b"refused", k as u64),
-        Lengths::One(k) => print_made(list, slip_length, short, &pairing[..k], text),
-        Lengths::Two { .. } => 0,
+        Lengths::Two { first, .. } => print_made(list, slip_length, short, &pairing[..first], text),
+        Lengths::One(_) => 0,
     }
 }
 
@@ -66,16 +68,27 @@ fn print_in(
     slip: &mut [u8],
     short: &mut [u8],
     pairing: &mut [u8],
+    origins: &mut [u8],
     text: &mut [u8],
 ) -> usize
     requires { ⌜ (8192 ≤ length (now «work_a»)) × (8192 ≤ length (now «work_b»)) × (2052 ≤ length (now slip))
-        × (32780 ≤ length (now short)) × (1540 ≤ length (now pairing)) × (36864 ≤ length (now text)) ⌝ }
+        × (32780 ≤ length (now short)) × (1540 ≤ length (now pairing)) × (2564 ≤ length (now origins))
+        × (36864 ≤ length (now text)) ⌝ }
     ensures { λ r. ⌜ Made (printed (now (list .entry))) (now (text .exit)) r ⌝ }
 {
     match reduction::reduce(list, work_a, work_b, slip, short) {
         Lengths::Refused(k) => text::line(text, 0, b"refused", k as u64),
         Lengths::Two { first, second } => {
-            print_paired(list, work_a, work_b, first, &short[..second], pairing, text)
+            print_paired(
+                list,
+                work_a,
+                work_b,
+                first,
+                &short[..second],
+                pairing,
+                origins,
+                text,
+            )
         }
         Lengths::One(_) => 0,
     }
@@ -91,6 +104,7 @@ pub fn print(list: &[u8], text: &mut [u8; 36864]) -> usize
     let mut slip = [0u8; 2052];
     let mut short = [0u8; 32780];
     let mut pairing = [0u8; 1540];
+    let mut origins = [0u8; 2564];
     print_in(
         list,
         &mut work_a,
@@ -98,6 +112,7 @@ pub fn print(list: &[u8], text: &mut [u8; 36864]) -> usize
         &mut slip,
         &mut short,
         &mut pairing,
+        &mut origins,
         text,
     )
 }

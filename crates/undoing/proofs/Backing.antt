@@ -1,24 +1,26 @@
 -- The way back through all the steps on the trail. In order: a slip that is allowed, without its last step
--- (`replay-last`), and the way back through its last step (`lift-last`); a trail that is not empty has a last step
--- (`back-last`), which is to be undone (`back-there`); what undoing it leaves is a trail to go back on with the same
--- outcome (`Onward`, `onward-next`); an empty trail is the end of it (`onward-end`). Assumes nothing.
+-- (`replay-last`); a trail that is not empty has a last step (`back-last`), which is to be undone (`back-there`); what
+-- undoing it leaves is a trail to go back on with the same outcome (`Onward`, `onward-next`); an empty trail is the end
+-- of it (`onward-end`). Assumes nothing.
 use mathlib.Core.Path.{_≡_, refl, sym, ap, subst, _∙_}
 use mathlib.Core.Logic.{_⊎_, inl, inr}
 use mathlib.Core.List.{List, [], _∷_, _++_, append-nil, map}
 use mathlib.Core.Option.{Option, some, none}
-use Prim.Native.Nat.{ℕ, _<_}
+use Prim.Native.Nat.{ℕ, suc, _+_, _-_, _≤_, _<_}
 use native.Mathlib.Omega.{arith}
 use lib.ListN.{length, length-append}
 use lib.Seq.{length-take-le}
 use Rattle.matching.specs.Pairs.{Pair, Points}
 use Rattle.matching.specs.Pairing.{Pairing}
 use Rattle.matching.specs.Graph.{Graph}
-use Rattle.matching.specs.Steps.{Rule, Step, name, apply, undo}
+use Rattle.matching.specs.Steps.{Rule, Step, name, apply, added, undo}
+use Rattle.matching.specs.Origin.{Origins, stamped, originsBy}
 use Rattle.matching.specs.Find.{stepAt}
 use Rattle.matching.specs.Slip.{replay, left, lift}
 use Rattle.matching.proofs.Find.{step-is, step-fits}
 use Rattle.matching.proofs.Exact.{step-lifted}
 use Rattle.matching.proofs.Behind.{left-append}
+use Rattle.matching.proofs.Origin.{lift-last, origins-last}
 use Rattle.matching.proofs.Reduce.{replay-fits, replay-more}
 use Rattle.matching.proofs.Demand.{slip-graph}
 use Rattle.trail.specs.Trail.{stepWords, trail}
@@ -62,23 +64,24 @@ replay-last n w (t ∷ ss) s h =
     let i = replay-last n (apply w t) ss s (f .1) in
     (replay-more n w (name t) t (map name ss) ss (f .0) (i .0), i .1)
 
-lift-last : (w : Points) (ss : List Step) (s : Step) (m : List Pair)
-    → lift w (ss ++ s ∷ []) m ≡ lift w ss (undo (left w ss) s m)
-lift-last w [] s m = refl
-lift-last w (t ∷ ss) s m = ap (undo w t) (lift-last (apply w t) ss s m)
-
 -- ---- the last step of a trail
 
 -- The steps before the last one, and the last one.
-pub record Last {t : ℕ} {w1 w2 : List ℕ} (b : BackThere t w1 w2) : Type 0 where
+pub record Last {t count : ℕ} {w1 w2 : List ℕ} (b : BackThere t count w1 w2) : Type 0 where
   init : List Step
   step : Step
   is : b .steps ≡ init ++ step ∷ []
 
+-- What the way back makes of a pairing, and where its pairs come from.
+abbrev pairsOf : {t count : ℕ} {w1 w2 : List ℕ} → BackThere t count w1 w2 → List Pair
+pairsOf b = lift (b .w) (b .steps) (b .pairs)
+
+abbrev fromOf : {t count : ℕ} {w1 w2 : List ℕ} → BackThere t count w1 w2 → Origins
+fromOf b = originsBy (b .from) (b .w) 1 (b .steps) (b .pairs)
+
 -- A trail to go back on with the same outcome.
-abbrev pub Onward : {t : ℕ} {w1 w2 : List ℕ} → BackThere t w1 w2 → ℕ → List ℕ → List ℕ → Type 0
-Onward b r w1′ w2′ =
-    (d : BackThere r w1′ w2′) × (lift (d .w) (d .steps) (d .pairs) ≡ lift (b .w) (b .steps) (b .pairs))
+abbrev pub Onward : {t count : ℕ} {w1 w2 : List ℕ} → BackThere t count w1 w2 → ℕ → ℕ → List ℕ → List ℕ → Type 0
+Onward b r number w1′ w2′ = (d : BackThere r number w1′ w2′) × (pairsOf d ≡ pairsOf b) × (fromOf d ≡ fromOf b)
 
 last-view : (ss : List Step) → (ss ≡ []) ⊎ ((init : List Step) × (s : Step) × (ss ≡ init ++ s ∷ []))
 last-view [] = inl refl
@@ -89,7 +92,7 @@ last-view (t ∷ ss) = go (last-view ss)
     go (inl e) = inr ([], t, ap (λ (xs : List Step). t ∷ xs) e)
     go (inr (init, s, e)) = inr (t ∷ init, s, ap (λ (xs : List Step). t ∷ xs) e)
 
-module _ {t : ℕ} {w1 w2 : List ℕ} (b : BackThere t w1 w2) where
+module _ {t count : ℕ} {w1 w2 : List ℕ} (b : BackThere t count w1 w2) where
   trail-length : t ≡ length (trail (b .w) (b .steps))
   trail-length =
       sym (length-take-le t w2 (omega (arith, b .rooms .most, b .rooms .room2))) ∙ ap length (b .trail)
@@ -102,11 +105,13 @@ module _ {t : ℕ} {w1 w2 : List ℕ} (b : BackThere t w1 w2) where
           (let z : ⊥ = omega (arith, trail-length, ap (λ (ss : List Step). length (trail (b .w) ss)) e) in absurd z)
       go (inr (init, s, e)) = record { init = init; step = s; is = e }
 
-  back-none : t ≡ 0 → Lifted t w1 w2 w2 b
+  back-none : t ≡ 0 → Lifted t count w1 w2 w2 b
   back-none z = go (b .steps) refl
     where
-      go : (ss : List Step) → b .steps ≡ ss → Mates w2 (lift (b .w) (b .steps) (b .pairs))
-      go [] e = subst (λ (xs : List Step). Mates w2 (lift (b .w) xs (b .pairs))) (sym e) (b .mates)
+      go : (ss : List Step) → b .steps ≡ ss → Mates w2 (fromOf b) (pairsOf b)
+      go [] e =
+          subst (λ (xs : List Step). Mates w2 (originsBy (b .from) (b .w) 1 xs (b .pairs)) (lift (b .w) xs (b .pairs)))
+          (sym e) (b .mates)
       go (s ∷ ss) e =
           (let y : ⊥ = omega (
             arith,
@@ -135,14 +140,19 @@ module _ {t : ℕ} {w1 w2 : List ℕ} (b : BackThere t w1 w2) where
         subst (λ (w : Points). Pairing w (b .pairs))
         (ap (left (b .w)) (l .is) ∙ left-append (b .w) (l .init) (l .step ∷ [])) (b .pairing)
 
-    pub back-there : UndoThere t w1 w2
+    count-last : count ≡ suc (length (l .init))
+    count-last = omega (arith, b .count-is, ap length (l .is), length-append (l .init) (l .step ∷ []))
+
+    pub back-there : UndoThere t count w1 w2
     back-there = record {
       rooms = b .rooms;
       n = b .n;
       w = before;
       step = l .step;
       rest = trail (b .w) (l .init);
+      from = b .from;
       pairs = b .pairs;
+      few = b .few;
       cells = b .cells;
       graph = before-graph;
       is = step-is before-graph (name (l .step) .0) (name (l .step) .1) (l .step) (split .1);
@@ -156,12 +166,15 @@ module _ {t : ℕ} {w1 w2 : List ℕ} (b : BackThere t w1 w2) where
       mates = b .mates;
     }
 
+    abbrev after : Origins
+    after = stamped count (l .step) (added before (l .step) (b .pairs)) (b .from)
+
     back-on : {r : ℕ} {w1′ w2′ : List ℕ} → length w1′ ≡ length w1 → length w2′ ≡ length w2
-        → Undone t w1 w2 w2′ r back-there → Onward b r w1′ w2′
+        → Undone t count w1 w2 w2′ r back-there → Onward b r (count - 1) w1′ w2′
     unfolding back-there
-    back-on {r} {w1′} {w2′} p q u = (d, same)
+    back-on {r} {w1′} {w2′} p q u = (d, same-pairs, same-from)
       where
-        d : BackThere r w1′ w2′
+        d : BackThere r (count - 1) w1′ w2′
         d = record {
           rooms = record {
             room1 = omega (arith, p, b .rooms .room1);
@@ -171,7 +184,10 @@ module _ {t : ℕ} {w1 w2 : List ℕ} (b : BackThere t w1 w2) where
           n = b .n;
           w = b .w;
           steps = l .init;
+          from = after;
           pairs = undo before (l .step) (b .pairs);
+          count-is = omega (arith, count-last);
+          few = omega (arith, b .few);
           cells = b .cells;
           graph = b .graph;
           allowed = split .0;
@@ -184,20 +200,35 @@ module _ {t : ℕ} {w1 w2 : List ℕ} (b : BackThere t w1 w2) where
           mates = u .mates;
         }
 
-        same : lift (b .w) (l .init) (undo before (l .step) (b .pairs)) ≡ lift (b .w) (b .steps) (b .pairs)
-        same =
+        same-pairs : lift (b .w) (l .init) (undo before (l .step) (b .pairs)) ≡ pairsOf b
+        same-pairs =
             sym (ap (λ (xs : List Step). lift (b .w) xs (b .pairs)) (l .is)
             ∙ lift-last (b .w) (l .init) (l .step) (b .pairs))
 
+        same-from : originsBy after (b .w) 1 (l .init) (undo before (l .step) (b .pairs)) ≡ fromOf b
+        same-from =
+            let e : 1 + length (l .init) ≡ count = omega (arith, count-last) in
+            sym (ap (λ (xs : List Step). originsBy (b .from) (b .w) 1 xs (b .pairs)) (l .is)
+            ∙ origins-last (b .from) (b .w) 1 (l .init) (l .step) (b .pairs)
+            ∙ ap (λ (k : ℕ). originsBy (stamped k (l .step) (added before (l .step) (b .pairs)) (b .from)) (b .w) 1
+            (l .init) (undo before (l .step) (b .pairs))) e)
+
 -- ---- the loop
 
-module _ {t left : ℕ} {w1₀ w2₀ w1 w2 : List ℕ} (b : BackThere t w1₀ w2₀) (o : Onward b left w1 w2) where
+module _ {t count left number : ℕ} {w1₀ w2₀ w1 w2 : List ℕ} (b : BackThere t count w1₀ w2₀)
+    (o : Onward b left number w1 w2) where
   pub onward-next : {r : ℕ} {w1′ w2′ : List ℕ} (l : 0 < left) → length w1′ ≡ length w1 → length w2′ ≡ length w2
-      → ((u : UndoThere left w1 w2) → Undone left w1 w2 w2′ r u) → Onward b r w1′ w2′
+      → ((u : UndoThere left number w1 w2) → Undone left number w1 w2 w2′ r u) → Onward b r (number - 1) w1′ w2′
   onward-next l p q d =
       let k = back-last (o .0) l in
       let n = back-on (o .0) k p q (d (back-there (o .0) k)) in
-      (n .0, n .1 ∙ o .1)
+      (n .0, n .1 ∙ o .1, n .2 ∙ o .2)
 
-  pub onward-end : left ≡ 0 → Lifted t w1₀ w2₀ w2 b
-  onward-end z = subst (Mates w2) (o .1) (back-none (o .0) z)
+  -- there is a step to count
+  pub onward-some : 0 < left → 1 ≤ number
+  onward-some l = omega (arith, count-last (o .0) (back-last (o .0) l))
+
+  pub onward-end : left ≡ 0 → Lifted t count w1₀ w2₀ w2 b
+  onward-end z =
+      subst (λ (f : Origins). Mates w2 f (pairsOf b)) (o .2)
+      (subst (Mates w2 (fromOf (o .0))) (o .1) (back-none (o .0) z))

@@ -5,12 +5,13 @@ use mathlib.Core.Path.{_≡_, refl, sym, ap, subst, _∙_}
 use mathlib.Core.Bool.{Bool}
 use mathlib.Core.List.{List, [], _∷_, _++_, append-assoc}
 use mathlib.Core.Option.{some}
-use Prim.Native.Nat.{ℕ, _+_, _-_, _≤_}
+use Prim.Native.Nat.{ℕ, _+_, _-_, _≤_, _<_}
 use native.Mathlib.Omega.{arith}
 use lib.ListN.{length, getD, take, drop, length-append}
 use lib.Seq.{length-take-le, take-add, take-take, getD-take, getD-at, take-at, drop-at}
 use Rattle.buffers.specs.Map.{trailRoom}
-use Rattle.matching.specs.Steps.{Step, leaf, ring, chain, name, inside, undo}
+use Rattle.matching.specs.Steps.{Rule, by-leaf, by-ring, by-chain, Step, leaf, ring, chain, name, inside}
+use Rattle.matching.specs.Origin.{from-step}
 use Rattle.matching.proofs.Find.{is-fits}
 use Rattle.matching.proofs.Search.{none-some}
 use Rattle.finding.specs.Finding.{told, asStep}
@@ -19,12 +20,12 @@ use Rattle.finding.specs.declared.Step.the-variants as found
 use Rattle.finding.proofs.Told.{told-same}
 use Rattle.trail.specs.Trail.{closingOf, Closable, stepIn, pairsIn, moreIn, rowOf, stepWords}
 use Rattle.trail.proofs.Trail.{step-read, pairs-read, more-read, closable}
-use Rattle.partners.specs.Table.{Mates}
+use Rattle.origins.specs.Stamps.{stampOf}
 use Rattle.undoing.specs.Back.{UndoThere, Undone}
-use Rattle.undoing.specs.Unwinding.{TableOf, wordsAt, StepBack, LeafBack, RingBack, ChainBack}
+use Rattle.undoing.specs.Unwinding.{wordsAt, StepBack, UndoneTable, LeafBack, RingBack, ChainBack}
 use Rattle.undoing.proofs.Marking.{words-same}
 
-module _ {t : ℕ} {w1 w2 : List ℕ} (h : UndoThere t w1 w2) where
+module _ {t number : ℕ} {w1 w2 : List ℕ} (h : UndoThere t number w1 w2) where
   abbrev row : List ℕ
   row = rowOf (h .w) (h .step)
 
@@ -58,17 +59,29 @@ module _ {t : ℕ} {w1 w2 : List ℕ} (h : UndoThere t w1 w2) where
       ∙ getD-at (h .rest ++ row) close [] 0 (t - 1)
       (omega (arith, length-append (h .rest) row, trail-length))
 
-  step-back : StepBack w2 (h .w) (h .step) (h .pairs)
-  step-back = record {
-    n = h .n;
-    room2 = h .rooms .room2;
-    cells = h .cells;
-    graph = h .graph;
-    is = h .is;
-    small = h .small;
-    pairing = h .pairing;
-    mates = h .mates;
-  }
+  -- The stamp of the step, by its rule.
+  abbrev pub StampOf : ℕ → Rule → Type 0
+  StampOf stamp rule = (stampOf (from-step number rule) ≡ stamp) × (stamp < 16384)
+
+  step-back : {s : Step} {stamp : ℕ} → h .step ≡ s → StampOf stamp (name s .0)
+      → StepBack stamp w2 (h .w) s number (h .from) (h .pairs)
+  step-back {s} {stamp} e is =
+      subst (λ (x : Step). StampOf stamp (name x .0) → StepBack stamp w2 (h .w) x number (h .from) (h .pairs)) e there
+      is
+    where
+      there : StampOf stamp (name (h .step) .0) → StepBack stamp w2 (h .w) (h .step) number (h .from) (h .pairs)
+      there is = record {
+        n = h .n;
+        room2 = h .rooms .room2;
+        cells = h .cells;
+        graph = h .graph;
+        is = h .is;
+        small = h .small;
+        few = is .1;
+        stamp-is = is .0;
+        pairing = h .pairing;
+        mates = h .mates;
+      }
 
   -- by the number of pairs that is read
   module _ {k : ℕ} (e : k ≡ pairsIn (getD w2 (t - 1) 0)) where
@@ -104,13 +117,14 @@ module _ {t : ℕ} {w1 w2 : List ℕ} (h : UndoThere t w1 w2) where
         ∙ take-at (h .rest) (row ++ close ∷ []) (t - 1 - k) (sym last-rest)
 
     undone : {w2′ : List ℕ} {s : Step} → length w2′ ≡ length w2 → h .step ≡ s
-        → TableOf w2 w2′ (undo (h .w) s (h .pairs)) → Undone t w1 w2 w2′ (t - 1 - k) h
+        → UndoneTable w2 w2′ (h .w) s number (h .from) (h .pairs) → Undone t number w1 w2 w2′ (t - 1 - k) h
     undone {w2′} {s} l e d = record {
       left = last-rest;
       fewer = omega (arith, last-some);
       trail =
           words-same 0 (t - 1 - k) w2 w2′ (d .aside) (omega (arith, h .rooms .most)) (h .rooms .room2) l ∙ last-trail;
-      mates = subst (λ (x : Step). Mates w2′ (undo (h .w) x (h .pairs))) (sym e) (d .mates);
+      mates =
+          subst (λ (x : Step). UndoneTable w2 w2′ (h .w) x number (h .from) (h .pairs)) (sym e) d .mates;
     }
 
     -- marks for each pair of the row
@@ -140,43 +154,53 @@ module _ {t : ℕ} {w1 w2 : List ℕ} (h : UndoThere t w1 w2) where
       is-chain : {u v z : ℕ} → x ≡ found.Chain u v z → h .step ≡ chain u v z (inside (h .step))
       is-chain q = (let e = step-is q in cc)
 
-      pub leaf-there : {v u : ℕ} → x ≡ found.Leaf v u → LeafBack u v w2
-      leaf-there q = record {
+      pub leaf-there : {v u stamp : ℕ} → x ≡ found.Leaf v u → StampOf stamp by-leaf → LeafBack u v stamp w2
+      leaf-there q is = record {
         w = h .w;
+        number = number;
+        from = h .from;
         pairs = h .pairs;
-        back = subst (λ (s : Step). StepBack w2 (h .w) s (h .pairs)) (is-leaf q) step-back;
+        back = step-back (is-leaf q) is;
       }
 
-      pub leaf-undone : {v u : ℕ} (q : x ≡ found.Leaf v u) {w2′ : List ℕ} → length w2′ ≡ length w2
-          → ((b : LeafBack u v w2) → TableOf w2 w2′ (undo (b .w) (leaf u v) (b .pairs)))
-          → Undone t w1 w2 w2′ (t - 1 - k) h
+      pub leaf-undone : {v u stamp : ℕ} (q : x ≡ found.Leaf v u) → StampOf stamp by-leaf
+          → {w2′ : List ℕ} → length w2′ ≡ length w2
+          → ((b : LeafBack u v stamp w2) → UndoneTable w2 w2′ (b .w) (leaf u v) (b .number) (b .from) (b .pairs))
+          → Undone t number w1 w2 w2′ (t - 1 - k) h
       unfolding leaf-there
-      leaf-undone q l d = undone l (is-leaf q) (d (leaf-there q))
+      leaf-undone q is l d = undone l (is-leaf q) (d (leaf-there q is))
 
       module _ (marks : List ℕ) (as-many : length marks ≡ k) where
-        pub ring-there : {u z : ℕ} → x ≡ found.Ring u z → RingBack (t - 1 - k) u z marks w2
-        ring-there q = record {
+        pub ring-there : {u z stamp : ℕ} → x ≡ found.Ring u z → StampOf stamp by-ring
+            → RingBack (t - 1 - k) u z stamp marks w2
+        ring-there q is = record {
           w = h .w;
           inner = inside (h .step);
+          number = number;
+          from = h .from;
           pairs = h .pairs;
-          back = subst (λ (s : Step). StepBack w2 (h .w) s (h .pairs)) (is-ring q) step-back;
+          back = step-back (is-ring q) is;
           on-trail = on-place marks as-many;
           words = words-at marks as-many ∙ ap (rowOf (h .w)) (is-ring q);
         }
 
-        pub ring-undone : {u z : ℕ} (q : x ≡ found.Ring u z) {w2′ : List ℕ} → length w2′ ≡ length w2
-            → ((b : RingBack (t - 1 - k) u z marks w2) → TableOf w2 w2′ (undo (b .w) (ring u z (b .inner)) (b .pairs)))
-            → Undone t w1 w2 w2′ (t - 1 - k) h
+        pub ring-undone : {u z stamp : ℕ} (q : x ≡ found.Ring u z) → StampOf stamp by-ring
+            → {w2′ : List ℕ} → length w2′ ≡ length w2
+            → ((b : RingBack (t - 1 - k) u z stamp marks w2)
+            → UndoneTable w2 w2′ (b .w) (ring u z (b .inner)) (b .number) (b .from) (b .pairs))
+            → Undone t number w1 w2 w2′ (t - 1 - k) h
         unfolding ring-there
-        ring-undone q l d = undone l (is-ring q) (d (ring-there q))
+        ring-undone q is l d = undone l (is-ring q) (d (ring-there q is))
 
-        pub chain-there : {u v z : ℕ} {more : Bool} → x ≡ found.Chain u v z → more ≡ moreIn (getD w2 (t - 1) 0)
-            → ChainBack (t - 1 - k) u v z more marks w2
-        chain-there {u} {v} {z} q m = record {
+        pub chain-there : {u v z stamp : ℕ} {more : Bool} → x ≡ found.Chain u v z → StampOf stamp by-chain
+            → more ≡ moreIn (getD w2 (t - 1) 0) → ChainBack (t - 1 - k) u v z more stamp marks w2
+        chain-there {u} {v} {z} q is m = record {
           w = h .w;
           inner = inside (h .step);
+          number = number;
+          from = h .from;
           pairs = h .pairs;
-          back = subst (λ (s : Step). StepBack w2 (h .w) s (h .pairs)) (is-chain q) step-back;
+          back = step-back (is-chain q) is;
           on-trail = on-place marks as-many;
           words = words-at marks as-many ∙ ap (rowOf (h .w)) (is-chain q);
           direct =
@@ -185,13 +209,13 @@ module _ {t : ℕ} {w1 w2 : List ℕ} (h : UndoThere t w1 w2) where
               ∙ more-read (h .w) u v z (inside (h .step)) (subst Closable (is-chain q) step-closable);
         }
 
-        pub chain-undone : {u v z : ℕ} {more : Bool} (q : x ≡ found.Chain u v z) → more ≡ moreIn (getD w2 (t - 1) 0)
-            → {w2′ : List ℕ} → length w2′ ≡ length w2
-            → ((b : ChainBack (t - 1 - k) u v z more marks w2)
-            → TableOf w2 w2′ (undo (b .w) (chain u v z (b .inner)) (b .pairs)))
-            → Undone t w1 w2 w2′ (t - 1 - k) h
+        pub chain-undone : {u v z stamp : ℕ} {more : Bool} (q : x ≡ found.Chain u v z) → StampOf stamp by-chain
+            → more ≡ moreIn (getD w2 (t - 1) 0) → {w2′ : List ℕ} → length w2′ ≡ length w2
+            → ((b : ChainBack (t - 1 - k) u v z more stamp marks w2)
+            → UndoneTable w2 w2′ (b .w) (chain u v z (b .inner)) (b .number) (b .from) (b .pairs))
+            → Undone t number w1 w2 w2′ (t - 1 - k) h
         unfolding chain-there
-        chain-undone q m l d = undone l (is-chain q) (d (chain-there q m))
+        chain-undone q is m l d = undone l (is-chain q) (d (chain-there q is m))
 
       pub none-there : x ≡ found.None → ⊥
       none-there q = none-some refl (step-is q)

@@ -1,8 +1,12 @@
 // Inner, for lifting: the way back through the steps on the trail, on the table of partners. See specs/Back, and
 // specs/Unwinding for its parts.
 use buffers::clear;
+use buffers::map::PARTNER_FIELD;
 use buffers::map::TABLE;
 use finding::Step;
+use origins;
+use origins::Origin;
+use origins::Rule;
 use trail::words;
 ghost use mathlib.Core.Path.{_≡_};
 ghost use mathlib.Core.Bool.{cond};
@@ -11,22 +15,22 @@ ghost use Prim.Native.Nat.{_≤_, _<_};
 ghost use lib.Dec.{eqb};
 ghost use lib.ListN.{length};
 ghost use Rattle.matching.specs.Pairs.{Pair, held};
-ghost use Rattle.matching.specs.Pairing.{Once};
-ghost use Rattle.matching.specs.Steps.{leaf, ring, chain, undo};
+ghost use Rattle.matching.specs.Steps.{leaf, ring, chain};
+ghost use Rattle.matching.specs.Origin.{Origins, from-step};
 ghost use Rattle.rows.specs.Row.{marked};
 ghost use Rattle.trail.specs.Trail.{rowPairs};
-ghost use Rattle.partners.specs.Table.{Mates};
+ghost use Rattle.origins.specs.Stamps.{asRule, stampOf};
 ghost use Rattle.undoing.specs.Back.{UndoThere, Undone, BackThere, Lifted};
-ghost use Rattle.undoing.specs.Unwinding.{joined, parted, TableOf, wordsAt, PutThere, ChainFreed, RingFreed};
-ghost use Rattle.undoing.specs.Unwinding.{LeafBack, RingBack, ChainBack};
+ghost use Rattle.undoing.specs.Unwinding.{joined, parted, InTable, TableOf, wordsAt, PutThere};
+ghost use Rattle.undoing.specs.Unwinding.{ChainFreed, RingFreed, UndoneTable, LeafBack, RingBack, ChainBack};
 
-// The pair x, y comes into the table.
-fn join(w2: &mut [u64], x: usize, y: usize)
-    requires { ⌜ (8192 ≤ length (now w2)) × (x < 1024) × (y < 1024) ⌝ }
-    ensures { λ _. ⌜ now (w2 .exit) ≡ joined x y (now (w2 .entry)) ⌝ }
+// The pair x, y comes into the table, with its stamp.
+fn join(w2: &mut [u64], x: usize, y: usize, stamp: u64)
+    requires { ⌜ (8192 ≤ length (now w2)) × (x < 1024) × (y < 1024) × (stamp < 16384) ⌝ }
+    ensures { λ _. ⌜ now (w2 .exit) ≡ joined x y stamp (now (w2 .entry)) ⌝ }
 {
-    w2[TABLE + x] = y as u64 + 1;
-    w2[TABLE + y] = x as u64 + 1;
+    w2[TABLE + x] = y as u64 + 1 + PARTNER_FIELD * stamp;
+    w2[TABLE + y] = x as u64 + 1 + PARTNER_FIELD * stamp;
 }
 
 // The pair x, y goes out of the table.
@@ -38,22 +42,22 @@ fn part(w2: &mut [u64], x: usize, y: usize)
     w2[TABLE + y] = 0;
 }
 
-// The pair x, y comes into the table where the mark is 1.
-fn join_marked(w2: &mut [u64], mark: u64, x: usize, y: usize)
-    requires { ⌜ (8192 ≤ length (now w2)) × (x < 1024) × (y < 1024) ⌝ }
-    ensures { λ _. ⌜ now (w2 .exit) ≡ cond (eqb mark 1) (joined x y (now (w2 .entry))) (now (w2 .entry)) ⌝ }
+// The pair x, y comes into the table, with its stamp, where the mark is 1.
+fn join_marked(w2: &mut [u64], mark: u64, x: usize, y: usize, stamp: u64)
+    requires { ⌜ (8192 ≤ length (now w2)) × (x < 1024) × (y < 1024) × (stamp < 16384) ⌝ }
+    ensures { λ _. ⌜ now (w2 .exit) ≡ cond (eqb mark 1) (joined x y stamp (now (w2 .entry))) (now (w2 .entry)) ⌝ }
 {
     if mark == 1 {
-        join(w2, x, y);
+        join(w2, x, y, stamp);
     }
 }
 
 // The marked pairs of the row whose words stand on the trail from place a on, to its end v, come into the table, the
-// last first.
-fn put_marked(marks: &[u64], w2: &mut [u64], a: usize, v: usize)
-    requires { ⌜ PutThere a v (now marks) (now w2) ⌝ }
-    ensures { λ _. ⌜ ((p : PutThere a v (now (marks .entry)) (now (w2 .entry)))
-        → TableOf (now (w2 .entry)) (now (w2 .exit))
+// last first, with this stamp.
+fn put_marked(marks: &[u64], w2: &mut [u64], a: usize, v: usize, stamp: u64)
+    requires { ⌜ PutThere a v stamp (now marks) (now w2) ⌝ }
+    ensures { λ _. ⌜ ((p : PutThere a v stamp (now (marks .entry)) (now (w2 .entry)))
+        → TableOf (now (w2 .entry)) (now (w2 .exit)) (p .from)
         (marked (now (marks .entry)) (rowPairs (wordsAt a (now (marks .entry)) (now (w2 .entry))) v) ++ p .pairs)) ⌝ }
 {
     let mut to = v;
@@ -61,7 +65,7 @@ fn put_marked(marks: &[u64], w2: &mut [u64], a: usize, v: usize)
     while 0 < j {
         j -= 1;
         let from = words::cell_of(w2[a + j]);
-        join_marked(w2, marks[j], from, to);
+        join_marked(w2, marks[j], from, to, stamp);
         to = from;
     }
 }
@@ -69,9 +73,9 @@ fn put_marked(marks: &[u64], w2: &mut [u64], a: usize, v: usize)
 // Whether x and y are partners.
 fn are_partners(w2: &[u64], x: usize, y: usize) -> bool
     requires { ⌜ (8192 ≤ length (now w2)) × (x < 1024) × (y < 1024) ⌝ }
-    ensures { λ r. ⌜ ((m : List Pair) → Once m → Mates (now (w2 .entry)) m → r ≡ held x y m) ⌝ }
+    ensures { λ r. ⌜ ((o : Origins) (m : List Pair) → InTable (now (w2 .entry)) o m → r ≡ held x y m) ⌝ }
 {
-    w2[TABLE + x] == y as u64 + 1
+    w2[TABLE + x] % PARTNER_FIELD == y as u64 + 1
 }
 
 // Which ends of a chain its part leaves free.
@@ -83,8 +87,8 @@ struct Ends {
 // The pair that a chain step put for its row goes out of the table, where it is held.
 fn free_chain(w2: &mut [u64], u: usize, v: usize, z: usize, more: bool) -> Ends
     requires { ⌜ (8192 ≤ length (now w2)) × (u < 1024) × (v < 1024) × (z < 1024) ⌝ }
-    ensures { λ r. ⌜ ((m : List Pair) → Once m → Mates (now (w2 .entry)) m
-        → ChainFreed u v z more m (now (w2 .entry)) (now (w2 .exit)) r) ⌝ }
+    ensures { λ r. ⌜ ((o : Origins) (m : List Pair) → InTable (now (w2 .entry)) o m
+        → ChainFreed u v z more o m (now (w2 .entry)) (now (w2 .exit)) r) ⌝ }
 {
     if are_partners(w2, u, z) {
         part(w2, u, z);
@@ -120,8 +124,8 @@ fn free_chain(w2: &mut [u64], u: usize, v: usize, z: usize, more: bool) -> Ends
 // The pair that a ring step put for its row goes out of the table, where it is held; else the part leaves u free.
 fn free_ring(w2: &mut [u64], u: usize, z: usize) -> bool
     requires { ⌜ (8192 ≤ length (now w2)) × (u < 1024) × (z < 1024) ⌝ }
-    ensures { λ r. ⌜ ((m : List Pair) → Once m → Mates (now (w2 .entry)) m
-        → RingFreed u z m (now (w2 .entry)) (now (w2 .exit)) r) ⌝ }
+    ensures { λ r. ⌜ ((o : Origins) (m : List Pair) → InTable (now (w2 .entry)) o m
+        → RingFreed u z o m (now (w2 .entry)) (now (w2 .exit)) r) ⌝ }
 {
     if are_partners(w2, u, z) {
         part(w2, u, z);
@@ -131,47 +135,67 @@ fn free_ring(w2: &mut [u64], u: usize, z: usize) -> bool
 }
 
 // The way back of a leaf.
-fn undo_leaf(w2: &mut [u64], u: usize, v: usize)
-    requires { ⌜ LeafBack u v (now w2) ⌝ }
-    ensures { λ _. ⌜ ((b : LeafBack u v (now (w2 .entry))) → TableOf (now (w2 .entry)) (now (w2 .exit))
-        (undo (b .w) (leaf u v) (b .pairs))) ⌝ }
+fn undo_leaf(w2: &mut [u64], u: usize, v: usize, stamp: u64)
+    requires { ⌜ LeafBack u v stamp (now w2) ⌝ }
+    ensures { λ _. ⌜ ((b : LeafBack u v stamp (now (w2 .entry))) → UndoneTable (now (w2 .entry)) (now (w2 .exit))
+        (b .w) (leaf u v) (b .number) (b .from) (b .pairs)) ⌝ }
 {
     if w2[TABLE + u] == 0 {
-        join(w2, u, v);
+        join(w2, u, v, stamp);
     }
 }
 
 // The way back of a ring whose words stand on the trail from place a on, as many as there is room for marks.
-fn undo_ring(marks: &mut [u64], w2: &mut [u64], a: usize, u: usize, z: usize)
-    requires { ⌜ RingBack a u z (now marks) (now w2) ⌝ }
-    ensures { λ _. ⌜ ((b : RingBack a u z (now (marks .entry)) (now (w2 .entry)))
-        → TableOf (now (w2 .entry)) (now (w2 .exit)) (undo (b .w) (ring u z (b .inner)) (b .pairs))) ⌝ }
+fn undo_ring(marks: &mut [u64], w2: &mut [u64], a: usize, u: usize, z: usize, stamp: u64)
+    requires { ⌜ RingBack a u z stamp (now marks) (now w2) ⌝ }
+    ensures { λ _. ⌜ ((b : RingBack a u z stamp (now (marks .entry)) (now (w2 .entry)))
+        → UndoneTable (now (w2 .entry)) (now (w2 .exit)) (b .w) (ring u z (b .inner)) (b .number) (b .from)
+        (b .pairs)) ⌝ }
 {
     let less_u = free_ring(w2, u, z);
     let end = a + marks.len();
     clear(marks);
     rows::mark_ring(&w2[a..end], less_u, marks);
-    put_marked(marks, w2, a, u);
+    put_marked(marks, w2, a, u, stamp);
 }
 
 // The way back of a chain, likewise.
-fn undo_chain(marks: &mut [u64], w2: &mut [u64], a: usize, u: usize, v: usize, z: usize, more: bool)
-    requires { ⌜ ChainBack a u v z more (now marks) (now w2) ⌝ }
-    ensures { λ _. ⌜ ((b : ChainBack a u v z more (now (marks .entry)) (now (w2 .entry)))
-        → TableOf (now (w2 .entry)) (now (w2 .exit)) (undo (b .w) (chain u v z (b .inner)) (b .pairs))) ⌝ }
+fn undo_chain(
+    marks: &mut [u64],
+    w2: &mut [u64],
+    a: usize,
+    u: usize,
+    v: usize,
+    z: usize,
+    more: bool,
+    stamp: u64,
+)
+    requires { ⌜ ChainBack a u v z more stamp (now marks) (now w2) ⌝ }
+    ensures { λ _. ⌜ ((b : ChainBack a u v z more stamp (now (marks .entry)) (now (w2 .entry)))
+        → UndoneTable (now (w2 .entry)) (now (w2 .exit)) (b .w) (chain u v z (b .inner)) (b .number) (b .from)
+        (b .pairs)) ⌝ }
 {
     let ends = free_chain(w2, u, v, z, more);
     let end = a + marks.len();
     clear(marks);
     rows::mark_chain(&w2[a..end], ends.less_u, ends.less_v, marks);
-    put_marked(marks, w2, a, v);
+    put_marked(marks, w2, a, v, stamp);
 }
 
-// Undoes the last step on the trail of t words: the words of the trail that are left.
-fn undo_step(w1: &mut [u64], w2: &mut [u64], t: usize) -> usize
-    requires { ⌜ UndoThere t (now w1) (now w2) ⌝ }
-    ensures { λ r. ⌜ ((u : UndoThere t (now (w1 .entry)) (now (w2 .entry)))
-        → Undone t (now (w1 .entry)) (now (w2 .entry)) (now (w2 .exit)) r u) ⌝ }
+// The stamp of the pairs that undoing a step puts in.
+fn stamp_by(number: u64, rule: Rule) -> u64
+    requires { ⌜ number < 2048 ⌝ }
+    ensures { λ r. ⌜ (stampOf (from-step number (asRule rule)) ≡ r) × (r < 16384) ⌝ }
+{
+    let origin = Origin::Step { number, rule };
+    origins::stamp_of(origin)
+}
+
+// Undoes the last step on the trail of t words, which has that number: the words of the trail that are left.
+fn undo_step(w1: &mut [u64], w2: &mut [u64], t: usize, number: u64) -> usize
+    requires { ⌜ UndoThere t number (now w1) (now w2) ⌝ }
+    ensures { λ r. ⌜ ((u : UndoThere t number (now (w1 .entry)) (now (w2 .entry)))
+        → Undone t number (now (w1 .entry)) (now (w2 .entry)) (now (w2 .exit)) r u) ⌝ }
 {
     let word = w2[t - 1];
     let k = words::pairs_of(word);
@@ -180,15 +204,18 @@ fn undo_step(w1: &mut [u64], w2: &mut [u64], t: usize) -> usize
     let step = words::step_of(word);
     match step {
         Step::Leaf { v, u } => {
-            undo_leaf(w2, u, v);
+            let stamp = stamp_by(number, Rule::Leaf);
+            undo_leaf(w2, u, v, stamp);
             a
         }
         Step::Ring { u, z } => {
-            undo_ring(&mut w1[0..k], w2, a, u, z);
+            let stamp = stamp_by(number, Rule::Ring);
+            undo_ring(&mut w1[0..k], w2, a, u, z, stamp);
             a
         }
         Step::Chain { u, v, z } => {
-            undo_chain(&mut w1[0..k], w2, a, u, v, z, more);
+            let stamp = stamp_by(number, Rule::Chain);
+            undo_chain(&mut w1[0..k], w2, a, u, v, z, more, stamp);
             a
         }
         Step::None => a,
@@ -196,13 +223,15 @@ fn undo_step(w1: &mut [u64], w2: &mut [u64], t: usize) -> usize
 }
 
 // The way back through all the steps on the trail of t words, last step first.
-pub fn lift_back(w1: &mut [u64], w2: &mut [u64], t: usize)
-    requires { ⌜ BackThere t (now w1) (now w2) ⌝ }
-    ensures { λ _. ⌜ ((b : BackThere t (now (w1 .entry)) (now (w2 .entry)))
-        → Lifted t (now (w1 .entry)) (now (w2 .entry)) (now (w2 .exit)) b) ⌝ }
+pub fn lift_back(w1: &mut [u64], w2: &mut [u64], t: usize, steps: usize)
+    requires { ⌜ BackThere t steps (now w1) (now w2) ⌝ }
+    ensures { λ _. ⌜ ((b : BackThere t steps (now (w1 .entry)) (now (w2 .entry)))
+        → Lifted t steps (now (w1 .entry)) (now (w2 .entry)) (now (w2 .exit)) b) ⌝ }
 {
     let mut left = t;
+    let mut number = steps as u64;
     while 0 < left {
-        left = undo_step(w1, w2, left);
+        left = undo_step(w1, w2, left, number);
+        number -= 1;
     }
 }

@@ -3,7 +3,8 @@ use mathlib.Core.Path.{_≡_, sym, _∙_}
 use mathlib.Core.Bool.{false}
 use Rattle.cellfile.specs.Files.{pairing}
 use Rattle.checks.specs.Refusals.{misheaded}
-use Rattle.checks.proofs.Parts.{pairing-headed, head-whole, pairing-head, pairing-rest, row-holds, row-fails}
+use Rattle.cellfile.proofs.Outputs.{plain-pairing}
+use Rattle.checks.proofs.Parts.{head-whole, pairing-head, pairing-rest, row-holds, row-fails}
 use borrow.Author.Needs.{needs}
 use Rattle.checks.proofs.check_pairing.Statement.{statement}
 use Rattle.checks.proofs.check_pairing.Tie as tie
@@ -13,14 +14,14 @@ wrong-head-requires c κs = search needs
 
 returns : tie.Need-returns
 returns c =
-    row-holds 8 _ (pairing-head _ _ (sym (c .before .wrong-head .ensures pairing pairing-headed) ∙ c .if1 .taken))
+    row-holds 8 _ (pairing-head _ _ (sym (c .before .wrong-head .ensures pairing plain-pairing) ∙ c .if1 .taken))
 
 header-at-requires : tie.Need-header-at-requires
 header-at-requires c κs = search needs
 
 headed : (g : tie.Else1) → misheaded pairing (g .before .before .before .args .n)
     (g .before .before .before .args .pairing .now) ≡ false
-headed g = sym (g .before .wrong-head .ensures pairing pairing-headed) ∙ g .if1 .left
+headed g = sym (g .before .wrong-head .ensures pairing plain-pairing) ∙ g .if1 .left
 
 bad-pairs-requires : tie.Need-bad-pairs-requires
 bad-pairs-requires c κs = head-whole pairing _ _ _ (c .header-at .ensures) (headed (c .before))

@@ -3,7 +3,8 @@ use mathlib.Core.Path.{_≡_, sym, _∙_}
 use mathlib.Core.Bool.{false}
 use Rattle.cellfile.specs.Files.{slip}
 use Rattle.checks.specs.Refusals.{misheaded}
-use Rattle.checks.proofs.Parts.{slip-headed, head-whole, slip-head, slip-rest, row-holds, row-fails}
+use Rattle.cellfile.proofs.Outputs.{plain-slip}
+use Rattle.checks.proofs.Parts.{head-whole, slip-head, slip-rest, row-holds, row-fails}
 use borrow.Author.Needs.{needs}
 use Rattle.checks.proofs.check_slip.Statement.{statement}
 use Rattle.checks.proofs.check_slip.Tie as tie
@@ -12,14 +13,14 @@ wrong-head-requires : tie.Need-wrong-head-requires
 wrong-head-requires c κs = search needs
 
 returns : tie.Need-returns
-returns c = row-holds 6 _ (slip-head _ _ _ (sym (c .before .wrong-head .ensures slip slip-headed) ∙ c .if1 .taken))
+returns c = row-holds 6 _ (slip-head _ _ _ (sym (c .before .wrong-head .ensures slip plain-slip) ∙ c .if1 .taken))
 
 header-at-requires : tie.Need-header-at-requires
 header-at-requires c κs = search needs
 
 headed : (g : tie.Else1) → misheaded slip (g .before .before .before .args .n)
     (g .before .before .before .args .slip .now) ≡ false
-headed g = sym (g .before .wrong-head .ensures slip slip-headed) ∙ g .if1 .left
+headed g = sym (g .before .wrong-head .ensures slip plain-slip) ∙ g .if1 .left
 
 no-rule-requires : tie.Need-no-rule-requires
 no-rule-requires c κs = head-whole slip _ _ _ (c .header-at .ensures) (headed (c .before))

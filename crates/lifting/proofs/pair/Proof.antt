@@ -10,23 +10,23 @@ use Rattle.lifting.proofs.pair.Tie as tie
 
 pair-in-requires : tie.Need-pair-in-requires
 pair-in-requires c κs =
-    let few = c .before .before .before in
-    let a = few .before .before .before .before .before .before .before .args in
+    let few = c .before .before .before .before in
+    let a = few .before .before .before .before .before .before .before .before .args in
     enough-words (a .work-a .now) (a .work-b .now) (few .few-words .ensures)
 
 returns : tie.Need-returns
 returns c =
     let z = c .before .before .before .before .clear-both .ensures in
-    let i = c .before .before .before .before .before .before .before .before .before .before .before .before
-    .before in
-    let few = i .before .before .before .before in
-    let a = few .before .before .before .before .before .before .before .args in
+    let i = c .before .before .before .before .before .before .before .before .before .before .before .before .before
+    .before .before in
+    let few = i .before .before .before .before .before in
+    let a = few .before .before .before .before .before .before .before .before .args in
     let f =
     framed (lent (a .work-a .now) (a .work-b .now)) (a .list .now) (pairRows (a .list .now)) (few .few-words .ensures)
     (i .pair-in .ensures) in (
       f .0,
       (
-        f .1 .0,
+        (f .1 .0, f .1 .1 .0),
         (
           z .0 ∙ ap zeros (i .pair-in .kept .1 .1 .0),
           z .1 ∙ ap zeros (i .pair-in .kept .1 .1 .1 .0),
@@ -41,6 +41,7 @@ pair-spec =
     (λ c κs. search needs)
     pair-in-requires
     (λ c κs. search needs)
+    (λ c. search needs)
     (λ c. search needs)
     (λ c. search needs)
     (λ c. search needs)

@@ -20,12 +20,15 @@ slice-aggregate-print-in-4 c = search needs
 slice-aggregate-print-in-5 : tie.Need-slice-aggregate-print-in-5
 slice-aggregate-print-in-5 c = search needs
 
+slice-aggregate-print-in-6 : tie.Need-slice-aggregate-print-in-6
+slice-aggregate-print-in-6 c = search needs
+
 print-in-requires : tie.Need-print-in-requires
 print-in-requires c κs = search needs
 
 returns : tie.Need-returns
 returns c =
-    let m = c .before .before .before .before .before .print-in .ensures in
+    let m = c .before .before .before .before .before .before .print-in .ensures in
     ((m .0, sym (length-take-le _ _ (m .0))), m .1)
 
 pub print-spec : {M : Type 1} → statement M
@@ -37,5 +40,6 @@ print-spec =
     slice-aggregate-print-in-3
     slice-aggregate-print-in-4
     slice-aggregate-print-in-5
+    slice-aggregate-print-in-6
     print-in-requires
     returns)

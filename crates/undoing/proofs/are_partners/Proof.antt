@@ -19,7 +19,7 @@ add-result-2 c = search needs
 returns : tie.Need-returns
 returns c =
     let a = c .before in
-    table-held (a .args .w2 .now) (a .args .x) (a .args .y) (a .pre .1)
+    λ o m h. table-held (a .args .w2 .now) (a .args .x) (a .pre .1) o m h (a .args .y)
 
 pub are-partners-spec : {M : Type 1} → statement M
 are-partners-spec =

@@ -15,23 +15,23 @@ same-length : tie.Need-same-length
 same-length c = search needs
 
 returns : tie.Need-returns
-returns c m o h =
+returns c o m h =
     let k = c .before .before in
     let t = k .before .before in
     let p = t .before in
     let s = p .before .before .before in
-    ring-held (s .args .w2 .now) (s .pre .0) (s .args .u) (s .args .z) (s .pre .1) (s .pre .2) m o h
-    (sym (p .are-partners .ensures m o h) ∙ t .if1 .taken) (k .part .ensures)
+    ring-held (s .args .w2 .now) (s .pre .0) (s .args .u) (s .args .z) (s .pre .1) (s .pre .2) o m h
+    (sym (p .are-partners .ensures o m h) ∙ t .if1 .taken) (k .part .ensures)
 
 same-length-2 : tie.Need-same-length-2
 same-length-2 c = search needs
 
 returns-2 : tie.Need-returns-2
-returns-2 c m o h =
+returns-2 c o m h =
     let p = c .before in
     let s = p .before .before .before in
-    ring-unheld (s .args .w2 .now) (s .pre .0) (s .args .u) (s .args .z) (s .pre .1) (s .pre .2) m o h
-    (sym (p .are-partners .ensures m o h) ∙ c .if1 .left)
+    ring-unheld (s .args .w2 .now) (s .pre .0) (s .args .u) (s .args .z) (s .pre .1) (s .pre .2) o m h
+    (sym (p .are-partners .ensures o m h) ∙ c .if1 .left)
 
 pub free-ring-spec : {M : Type 1} → statement M
 free-ring-spec =

@@ -14,12 +14,12 @@ returns : tie.Need-returns
 returns c =
     let t = c .before .before .before .before in
     let a = t .before .before .args in
-    join-one (a .mark) (a .x) (a .y) (a .w2 .now) (t .if1 .taken) (c .before .before .join .ensures)
+    join-one (a .mark) (a .x) (a .y) (a .stamp) (a .w2 .now) (t .if1 .taken) (c .before .before .join .ensures)
 
 returns-2 : tie.Need-returns-2
 returns-2 c =
     let a = c .before .before .args in
-    join-not (a .mark) (a .x) (a .y) (a .w2 .now) (c .if1 .left)
+    join-not (a .mark) (a .x) (a .y) (a .stamp) (a .w2 .now) (c .if1 .left)
 
 pub join-marked-spec : {M : Type 1} → statement M
 join-marked-spec = tie.close (tie.spec join-requires same-length returns returns-2)

@@ -4,19 +4,20 @@ use mathlib.Core.Path.{_≡_, refl, _∙_}
 use native.Mathlib.Omega.{arith}
 use lib.ListN.{length}
 use Rattle.undoing.specs.Back.{BackThere}
-use Rattle.undoing.proofs.Backing.{Onward, back-last, back-there, onward-next, onward-end}
+use Rattle.undoing.proofs.Backing.{Onward, back-last, back-there, onward-next, onward-some, onward-end}
 use Rattle.undoing.proofs.lift_back.Statement.{statement}
 use Rattle.undoing.proofs.lift_back.Tie as tie
 
 abbrev Inv-loop : tie.InvT-loop
-Inv-loop w1₀ w2₀ t left₀ w1 w2 left =
-    (length w1 ≡ length w1₀) × (length w2 ≡ length w2₀) × ((b : BackThere t w1₀ w2₀) → Onward b left w1 w2)
+Inv-loop w1₀ w2₀ t steps left₀ number₀ w1 w2 left number =
+    (length w1 ≡ length w1₀) × (length w2 ≡ length w2₀)
+    × ((b : BackThere t steps w1₀ w2₀) → Onward b left number w1 w2)
 
 abbrev μ-loop : tie.MeasureT-loop
-μ-loop w1₀ w2₀ t left₀ w1 w2 left = left
+μ-loop w1₀ w2₀ t steps left₀ number₀ w1 w2 left number = left
 
 loop-holds : tie.Need-loop-holds Inv-loop μ-loop
-loop-holds c = (refl, refl, λ b. (b, refl))
+loop-holds c = (refl, refl, λ b. (b, refl, refl))
 
 undo-step-requires : tie.Need-undo-step-requires Inv-loop μ-loop
 undo-step-requires c κs =
@@ -24,6 +25,13 @@ undo-step-requires c κs =
     let l = t .before in
     let d = l .loop .inv .2 (l .before .before .before .pre) .0 in
     back-there d (back-last d (t .loop-test .taken))
+
+sub-number : tie.Need-sub-number Inv-loop μ-loop
+sub-number c =
+    let t = c .before .before .before .before .before .before .before in
+    let l = t .before in
+    let b = l .before .before .before .pre in
+    onward-some b (l .loop .inv .2 b) (t .loop-test .taken)
 
 loop-less : tie.Need-loop-less Inv-loop μ-loop
 loop-less c =
@@ -62,6 +70,7 @@ lift-back-spec =
     μ-loop
     loop-holds
     undo-step-requires
+    sub-number
     loop-less
     loop-again
     same-length

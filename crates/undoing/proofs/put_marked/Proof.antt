@@ -9,10 +9,10 @@ use Rattle.undoing.proofs.put_marked.Statement.{statement}
 use Rattle.undoing.proofs.put_marked.Tie as tie
 
 abbrev Inv-loop : tie.InvT-loop
-Inv-loop marks w2₀ a v to₀ j₀ w2 to j = (p : PutThere a v marks w2₀) → Putting p j to w2
+Inv-loop marks w2₀ a v stamp to₀ j₀ w2 to j = (p : PutThere a v stamp marks w2₀) → Putting p j to w2
 
 abbrev μ-loop : tie.MeasureT-loop
-μ-loop marks w2₀ a v to₀ j₀ w2 to j = j
+μ-loop marks w2₀ a v stamp to₀ j₀ w2 to j = j
 
 loop-holds : tie.Need-loop-holds Inv-loop μ-loop
 loop-holds c p = put-none p

@@ -33,12 +33,17 @@ step-of-requires c κs = search needs
 enum-known-step : tie.Need-enum-known-step
 enum-known-step c = search needs
 
+stamp-by-requires : tie.Need-stamp-by-requires
+stamp-by-requires c κs =
+    c .before .before .before .before .before .before .before .before .before .pre .few
+
 undo-leaf-requires : tie.Need-undo-leaf-requires
 undo-leaf-requires c κs =
-    let g = c .before .before in
+    let g = c .before .before .before in
     let s = g .before .before in
     let p = s .before .before in
     leaf-there (p .before .before .before .before .pre) (p .pairs-of .ensures) (s .step-of .ensures) (g .step .given .1)
+    (c .before .stamp-by .ensures)
 
 enum-known-step-2 : tie.Need-enum-known-step-2
 enum-known-step-2 c = search needs
@@ -52,14 +57,19 @@ part-undo-ring-start c = search needs
 part-undo-ring-end : tie.Need-part-undo-ring-end
 part-undo-ring-end c = search needs
 
+stamp-by-requires-2 : tie.Need-stamp-by-requires-2
+stamp-by-requires-2 c κs =
+    c .before .before .before .before .before .before .before .before .before .pre .few
+
 undo-ring-requires : tie.Need-undo-ring-requires
 undo-ring-requires c κs =
-    let g = c .before .before .before in
+    let k = c .before .before in
+    let g = k .before .before in
     let s = g .before .before in
     let p = s .before .before in
     let h = p .before .before .before .before .pre in
     ring-there h (p .pairs-of .ensures) (s .step-of .ensures) _ (marks-many h (p .pairs-of .ensures))
-    (g .step2 .given .1)
+    (g .step2 .given .1) (k .stamp-by2 .ensures)
 
 enum-known-step-3 : tie.Need-enum-known-step-3
 enum-known-step-3 c = search needs
@@ -73,14 +83,19 @@ part-undo-chain-start c = search needs
 part-undo-chain-end : tie.Need-part-undo-chain-end
 part-undo-chain-end c = search needs
 
+stamp-by-requires-3 : tie.Need-stamp-by-requires-3
+stamp-by-requires-3 c κs =
+    c .before .before .before .before .before .before .before .before .before .pre .few
+
 undo-chain-requires : tie.Need-undo-chain-requires
 undo-chain-requires c κs =
-    let g = c .before .before .before in
+    let k = c .before .before in
+    let g = k .before .before in
     let s = g .before .before in
     let p = s .before .before in
     let h = p .before .before .before .before .pre in
     chain-there h (p .pairs-of .ensures) (s .step-of .ensures) _ (marks-many h (p .pairs-of .ensures))
-    (g .step3 .given .1) (s .before .more-of .ensures)
+    (g .step3 .given .1) (k .stamp-by3 .ensures) (s .before .more-of .ensures)
 
 enum-told : tie.Need-enum-told
 enum-told c = search needs
@@ -91,11 +106,12 @@ same-length c = search needs
 returns : tie.Need-returns
 returns c h =
     let u = c .before .before in
-    let g = u .before .before .before in
+    let k = u .before .before in
+    let g = k .before .before in
     let s = g .before .before in
     let p = s .before .before in
-    leaf-undone h (p .pairs-of .ensures) (s .step-of .ensures) (g .step .given .1) (u .undo-leaf .kept .0)
-    (u .undo-leaf .ensures)
+    leaf-undone h (p .pairs-of .ensures) (s .step-of .ensures) (g .step .given .1) (k .stamp-by .ensures)
+    (u .undo-leaf .kept .0) (u .undo-leaf .ensures)
 
 same-length-2 : tie.Need-same-length-2
 same-length-2 c = search needs
@@ -106,12 +122,12 @@ same-length-3 c = search needs
 returns-2 : tie.Need-returns-2
 returns-2 c h =
     let u = c .before .before .before .before in
-    let g = u .before .before .before .before in
+    let k = u .before .before .before in
+    let g = k .before .before in
     let s = g .before .before in
     let p = s .before .before in
     ring-undone h (p .pairs-of .ensures) (s .step-of .ensures) _ (marks-many h (p .pairs-of .ensures))
-    (g .step2 .given .1)
-    (u .undo-ring .kept .1 .0) (u .undo-ring .ensures)
+    (g .step2 .given .1) (k .stamp-by2 .ensures) (u .undo-ring .kept .1 .0) (u .undo-ring .ensures)
 
 same-length-4 : tie.Need-same-length-4
 same-length-4 c = search needs
@@ -122,11 +138,12 @@ same-length-5 c = search needs
 returns-3 : tie.Need-returns-3
 returns-3 c h =
     let u = c .before .before .before .before in
-    let g = u .before .before .before .before in
+    let k = u .before .before .before in
+    let g = k .before .before in
     let s = g .before .before in
     let p = s .before .before in
     chain-undone h (p .pairs-of .ensures) (s .step-of .ensures) _ (marks-many h (p .pairs-of .ensures))
-    (g .step3 .given .1) (s .before .more-of .ensures)
+    (g .step3 .given .1) (k .stamp-by3 .ensures) (s .before .more-of .ensures)
     (u .undo-chain .kept .1 .0) (u .undo-chain .ensures)
 
 returns-4 : tie.Need-returns-4
@@ -147,13 +164,16 @@ undo-step-spec =
     more-of-requires
     step-of-requires
     enum-known-step
+    stamp-by-requires
     undo-leaf-requires
     enum-known-step-2
+    stamp-by-requires-2
     sub-undo-ring
     part-undo-ring-start
     part-undo-ring-end
     undo-ring-requires
     enum-known-step-3
+    stamp-by-requires-3
     sub-undo-chain
     part-undo-chain-start
     part-undo-chain-end

@@ -1,4 +1,6 @@
 -- `write_both` writes both files where both have room: their lengths are known from the numbers of words and of rows.
+use Rattle.cellfile.specs.Files.{slip}
+use Rattle.cellfile.proofs.Outputs.{plain-slip}
 use Rattle.reduction.proofs.Ends.{left-rows, left-fits, both-first, both-second, both-written}
 use borrow.Author.Needs.{needs}
 use native.Mathlib.Omega.{arith}
@@ -21,6 +23,9 @@ returns-2 c =
     both-second (a .w2 .now) (a .carried) (s .pre .0) (s .pre .1) (s .pre .2) (f .finish .ensures .1) (a .slip .now)
     (a .short .now) (c .if2 .taken)
 
+write-words-requires : tie.Need-write-words-requires
+write-words-requires c κs = ((slip, plain-slip, search needs), omega arith, omega arith)
+
 write-short-requires : tie.Need-write-short-requires
 write-short-requires c κs =
     let i = c .before .before .before .before .before .before .before in
@@ -40,12 +45,12 @@ returns-3 c =
     let a = s .args in
     let q = f .finish .ensures .1 in
     both-written (a .w2 .now) (a .carried) (s .pre .0) (s .pre .1) (s .pre .2) q (a .slip .now) (a .short .now)
-    (i .before .if1 .left) (i .if2 .left) (t .write-slip .ensures)
+    (i .before .if1 .left) (i .if2 .left) (t .write-words .ensures slip plain-slip)
     (c .before .before .write-short .ensures _ (left-rows (s .pre .0) q))
 
 pub write-both-spec : {M : Type 1} → statement M
 write-both-spec =
     tie.close (tie.spec (λ c κs. search needs) (λ c. search needs) (λ c. search needs) (λ c. search needs)
     (λ c. search needs) (λ c. search needs) returns (λ c. search needs) returns-2 (λ c. search needs)
-    (λ c. search needs) (λ c. search needs) (λ c κs. search needs) write-short-requires (λ c. search needs)
+    (λ c. search needs) (λ c. search needs) write-words-requires write-short-requires (λ c. search needs)
     (λ c. search needs) (λ c. search needs) returns-3)

@@ -1,0 +1,2 @@
+-- Laws of stamps.
+pub mod Stamps

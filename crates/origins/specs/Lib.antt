@@ -1,0 +1,2 @@
+-- Where a pair came from, as a stamp and as a record.
+pub mod Stamps
