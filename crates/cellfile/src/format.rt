@@ -11,6 +11,13 @@ pub const PAIRING: u64 = 4;
 
 pub const ORIGIN_LIST: u64 = 5;
 
+// The rules by their numbers, in a slip and in an origin list.
+pub const LEAF: u64 = 1;
+
+pub const RING: u64 = 2;
+
+pub const CHAIN: u64 = 3;
+
 // The bytes of the header, and of a record of a store list, a short list, a slip, a pairing and an origin list.
 pub const HEADER_BYTES: usize = 4;
 

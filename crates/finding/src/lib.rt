@@ -1,4 +1,7 @@
 // Inner, for the reduction: finds a step on the working graph. See specs/Walks and specs/Finding.
+use cellfile::format::CHAIN;
+use cellfile::format::LEAF;
+use cellfile::format::RING;
 use slots::read;
 ghost use mathlib.Core.Path.{_≡_};
 ghost use mathlib.Core.Logic.{_⊎_, _≢_};
@@ -60,13 +63,6 @@ pub struct Found {
     pub first: usize,
     pub slot: usize,
 }
-
-// The rules by their numbers.
-pub const LEAF: u64 = 1;
-
-pub const RING: u64 = 2;
-
-pub const CHAIN: u64 = 3;
 
 fn nothing() -> Found
     ensures { λ r. ⌜ told (r .step) ≡ (0, []) ⌝ }

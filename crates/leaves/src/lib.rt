@@ -5,7 +5,7 @@
 // at u loses that much once, at its end.
 use bounds;
 use buffers::map;
-use finding::LEAF;
+use cellfile::format::LEAF;
 use slots::change;
 use slots::read;
 use trail::words;

@@ -29,7 +29,7 @@ pub fn write_pairs(n: usize, w1: &[u64], r: usize, out: &mut [u8]) -> Lengths
     Lengths::One(size)
 }
 
-// The same, and the origin list whose records are r words further on.
+// The same, and the origin list whose records are the r words from `ORIGIN_WORDS` on.
 fn write_both(n: usize, w1: &[u64], r: usize, out: &mut [u8], origins: &mut [u8]) -> Lengths
     requires { ⌜ (n ≤ 1024) × (r ≤ 512) × (8192 ≤ length (now w1)) ⌝ }
     ensures { λ a. ⌜ Does []

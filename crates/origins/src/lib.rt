@@ -1,5 +1,8 @@
 // Inner, for partners and undoing: where a pair came from, its stamp in the table of partners, and its record in an
 // origin list. See specs/Stamps.
+use cellfile::format::CHAIN;
+use cellfile::format::LEAF;
+use cellfile::format::RING;
 ghost use mathlib.Core.Path.{_≡_};
 ghost use Prim.Native.Nat.{_≤_, _<_};
 ghost use Rattle.matching.specs.Origin.{numberIn};
@@ -42,9 +45,9 @@ fn rule_number(rule: Rule) -> u64
     ensures { λ r. ⌜ (r ≡ numberOf (asRule rule)) × (r ≤ 3) ⌝ }
 {
     match rule {
-        Rule::Leaf => 1,
-        Rule::Ring => 2,
-        Rule::Chain => 3,
+        Rule::Leaf => LEAF,
+        Rule::Ring => RING,
+        Rule::Chain => CHAIN,
     }
 }
 
@@ -52,10 +55,10 @@ fn rule_number(rule: Rule) -> u64
 fn rule_of(number: u64) -> Rule
     ensures { λ r. ⌜ asRule r ≡ ruleOf number ⌝ }
 {
-    if number == 1 {
+    if number == LEAF {
         return Rule::Leaf;
     }
-    if number == 2 {
+    if number == RING {
         return Rule::Ring;
     }
     Rule::Chain

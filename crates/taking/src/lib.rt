@@ -1,9 +1,9 @@
 // Inner, for the reduction: takes a step that was found. See specs/Applying, and specs/Parts for its parts.
+use cellfile::format::CHAIN;
+use cellfile::format::LEAF;
+use cellfile::format::RING;
 use finding;
-use finding::CHAIN;
 use finding::Found;
-use finding::LEAF;
-use finding::RING;
 use putting;
 use slots::change;
 use trail;

@@ -1,9 +1,9 @@
 // Inner, for the reduction and the way back: the words of the trail, written and read. See specs/Trail; that reading
 // gives back what was written: proofs/Trail.
 use buffers::map;
-use finding::CHAIN;
-use finding::LEAF;
-use finding::RING;
+use cellfile::format::CHAIN;
+use cellfile::format::LEAF;
+use cellfile::format::RING;
 use finding::Step;
 ghost use mathlib.Core.Path.{_≡_};
 ghost use Prim.Native.Nat.{_+_, _*_, _<_, _≤_};
