@@ -7,15 +7,15 @@ use lib.ListN.{length}
 use Rattle.matching.specs.Pairs.{Pair, Each, like}
 use Rattle.matching.specs.Listed.{filed}
 use Rattle.matching.specs.Slip.{lift}
-use Rattle.matching.specs.Origin.{Origins, allShort, origins, CameFrom}
+use Rattle.matching.specs.Origin.{Origins, origins, CameFrom}
 use Rattle.matching.proofs.Sums.{each-map, like-turned}
 use Rattle.matching.proofs.Filed.{filed-sum}
-use Rattle.matching.proofs.Origin.{each-held, origins-few, came-from}
+use Rattle.matching.proofs.Origin.{each-held, came-from}
 use Rattle.cellfile.specs.Files.{originList, originFields, readEntries, cellsOf, pairsOf}
 use Rattle.checks.proofs.Accepted.{accepted-list}
 use Rattle.starting.specs.Steps.{graphIn}
 use Rattle.lifting.specs.Calls.{liftFile, liftOrigins, liftedOrigins}
-use Rattle.lifting.proofs.Pairs.{Eleven}
+use Rattle.lifting.proofs.Pairs.{Eleven, origins-eleven}
 use Rattle.lifting.proofs.Filing.{all-entries, origins-longest, origins-read}
 use Rattle.claims.specs.Demand.{Allowed, Liftable}
 use Rattle.claims.specs.Claims.{OriginClaim}
@@ -36,9 +36,7 @@ module _ (list slip : List ℕ) (h : Allowed list slip) (pairing : List ℕ) (p 
   le = accepted-list list (h .accepted) .0
 
   numbers : Eleven (origins (graphIn list) (h .steps) (pairsOf pairing))
-  numbers a b =
-      origins-few 2048 allShort (λ c d. omega arith) (graphIn list) 1 (h .steps) m
-      (omega (arith, whole list slip h .steps, le)) a b
+  numbers = origins-eleven (graphIn list) (h .steps) m (omega (arith, whole list slip h .steps, le))
 
   pub same-origins : liftOrigins list slip pairing ≡ liftedOrigins list (h .steps) (pairsOf pairing)
   same-origins = by-steps list slip h [] (λ ts. liftedOrigins list ts m)

@@ -1,6 +1,7 @@
 -- The files that words make. In order: their length (`words-length`); one file refused or written by the output's room
 -- (`pairs-refused`, `pairs-written`), and two (`both-first`, `both-second`, `both-written`); the file of the pairs that
--- the words stand for (`records-file`): a pairing (`pairs-file`), an origin list (`origins-file`). Assumes nothing.
+-- the words stand for (`records-file`): a pairing (`pairs-file`), an origin list (`origins-file`), in which the steps'
+-- numbers have room (`origins-eleven`). Assumes nothing.
 use mathlib.Core.Path.{_≡_, refl, sym, ap, ap₂, _∙_}
 use mathlib.Core.List.{List, [], _∷_, map}
 use Prim.Native.Nat.{ℕ, _+_, _*_, _-_, _≤_, _<_}
@@ -8,10 +9,11 @@ use native.Mathlib.Omega.{arith}
 use lib.ListN.{length, take, drop, length-map, length-drop}
 use lib.Seq.{length-take-le, take-all}
 use Rattle.buffers.specs.Map.{atOrigins}
-use Rattle.matching.specs.Pairs.{Pair, Each}
-use Rattle.matching.specs.Steps.{by-leaf, by-ring, by-chain}
-use Rattle.matching.specs.Origin.{Origin, from-short, from-step, Origins, numberIn}
+use Rattle.matching.specs.Pairs.{Pair, Points, Each}
+use Rattle.matching.specs.Steps.{Step, by-leaf, by-ring, by-chain}
+use Rattle.matching.specs.Origin.{Origin, from-short, from-step, Origins, allShort, origins, numberIn}
 use Rattle.matching.proofs.Sums.{each-map}
+use Rattle.matching.proofs.Origin.{origins-few}
 use Rattle.cellfile.specs.Fields.{fields, packed}
 use Rattle.cellfile.specs.Files.{Layout, pairing as pairingLayout, originList, writeFile, onto, pairFields}
 use Rattle.cellfile.specs.Files.{originFields, fileLength, ruleIn}
@@ -123,6 +125,9 @@ rule-few (from-step number by-chain) = omega arith
 -- The numbers of the steps have 11 bits.
 abbrev pub Eleven : Origins → Type 0
 Eleven o = (a b : ℕ) → numberIn (o a b) < 2048
+
+pub origins-eleven : (w : Points) (ss : List Step) (m : List Pair) → length ss < 2048 → Eleven (origins w ss m)
+origins-eleven w ss m l = origins-few 2048 allShort (λ a b. omega arith) w 1 ss m (omega arith)
 
 pub origin-fits : (o : Origins) → Eleven o → (a b : ℕ) → (a < 1024) × (b < 1024)
     → FitsFields (originList .entry) (originFields o (a, b))

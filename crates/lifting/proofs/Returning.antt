@@ -12,13 +12,12 @@ use Rattle.matching.specs.Listed.{filed}
 use Rattle.matching.specs.Graph.{Graph}
 use Rattle.matching.specs.Steps.{name}
 use Rattle.matching.specs.Slip.{lift}
-use Rattle.matching.specs.Origin.{Origins, allShort, originsBy, origins}
+use Rattle.matching.specs.Origin.{Origins, originsBy, origins}
 use Rattle.matching.proofs.Sums.{each-map}
 use Rattle.matching.proofs.Put.{pair-apart, pair-below}
 use Rattle.matching.proofs.Filed.{filed-pairing}
 use Rattle.matching.proofs.Reduce.{replay-fits}
 use Rattle.matching.proofs.Demand.{slip-lifted}
-use Rattle.matching.proofs.Origin.{origins-few}
 use Rattle.cellfile.specs.Files.{pairing as pairingLayout, originList}
 use Rattle.cellfile.specs.Answers.{Answer}
 use Rattle.checks.specs.Answering.{Does}
@@ -26,7 +25,7 @@ use Rattle.lifting.specs.Calls.{pairFile}
 use Rattle.undoing.specs.Back.{BackThere, Lifted}
 use Rattle.partners.specs.Table.{Mates, TableThere, Listed}
 use Rattle.lifting.specs.Ending.{wordsFile, Change, backTo, ReturnThere}
-use Rattle.lifting.proofs.Pairs.{Eleven, pairs-file, origins-file}
+use Rattle.lifting.proofs.Pairs.{Eleven, origins-eleven, pairs-file, origins-file}
 
 module _ {n t count : ℕ} {w1 w2 : List ℕ} (h : ReturnThere n t count w1 w2) where
   abbrev b : BackThere t count w1 w2
@@ -51,9 +50,7 @@ module _ {n t count : ℕ} {w1 w2 : List ℕ} (h : ReturnThere n t count w1 w2) 
       (b .pairs) (b .pairing) .0
 
   numbers : Eleven (origins (b .w) (b .steps) (b .pairs))
-  numbers x y =
-      origins-few 2048 allShort (λ c d. omega arith) (b .w) 1 (b .steps) (b .pairs)
-      (omega (arith, b .count-is, b .few)) x y
+  numbers = origins-eleven (b .w) (b .steps) (b .pairs) (omega (arith, b .count-is, b .few))
 
   pub lifted-there : {v1 v2 : List ℕ} → length v1 ≡ length w1 → length v2 ≡ length w2 → Lifted t count w1 w2 v2 b
       → TableThere n v1 v2 from up
