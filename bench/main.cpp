@@ -1,9 +1,11 @@
-// The benchmark of reduce, lift and pair over the C interface, next to LEMON's MaxWeightedMatching.
+// The benchmark of reduce, lift and pair over the C interface, next to LEMON's MaxWeightedMatching, and of tidy next to
+// std::sort and std::unique.
 //
 //     bench families FOLDER SEED    measures every family; writes table.md and chart.svg into the folder
+//     bench tidy FOLDER SEED        measures tidy on raw lists; writes tidy.md into the folder
 //     bench lists FILE...           measures these store lists and prints what the calls make of them
 //
-// It ends with status 1 where a total is not the peer's, or a list is refused that should not be.
+// It ends with status 1 where a total or a tidied list is not the peer's, or a list is refused that should not be.
 
 #include <iostream>
 #include <iterator>
@@ -15,11 +17,14 @@
 #include "chart.hpp"
 #include "families.hpp"
 #include "report.hpp"
+#include "tidy.hpp"
 
 const std::vector<uint64_t> SIZES = {128, 256, 512, 1024};
 constexpr int LISTS = 6;
 constexpr int RUNS = 25;
 constexpr int RUNS_OF_A_FILE = 100;
+const std::vector<size_t> RAW_SIZES = {256, 512, 1024, 2048, 4096};
+constexpr int RAW_LISTS = 150;
 // So many lists are drawn for one that pair answers as the family says.
 constexpr int DRAWS = 100;
 
@@ -100,6 +105,22 @@ int measure_families(const std::string &folder, uint64_t seed) {
     return 0;
 }
 
+// Measures tidy at every size and writes its table.
+int measure_raw_lists(const std::string &folder, uint64_t seed) {
+    Random random(seed);
+    std::vector<TidyRow> rows;
+    for (size_t entries : RAW_SIZES) rows.push_back({entries, 0, {}, {}, {}});
+    measure_tidy(rows, RAW_LISTS, random);
+    std::ofstream table(folder + "/tidy.md");
+    table << "Times in microseconds, 'least / median' over " << RAW_LISTS
+          << " raw lists of each size, each taken once.\n"
+          << "Every store list that tidy wrote was the same, byte for byte, as that of std::sort and std::unique.\n\n";
+    write_tidy(table, rows);
+    table.close();
+    if (!table) fail("cannot write into " + folder);
+    return 0;
+}
+
 // The bytes of a file.
 Bytes read_file(const std::string &name) {
     std::ifstream in(name, std::ios::binary);
@@ -149,7 +170,9 @@ int main(int count, char **words) {
     const std::vector<std::string> arguments(words + 1, words + count);
     if (arguments.size() == 3 && arguments[0] == "families")
         return measure_families(arguments[1], std::strtoull(arguments[2].c_str(), nullptr, 10));
+    if (arguments.size() == 3 && arguments[0] == "tidy")
+        return measure_raw_lists(arguments[1], std::strtoull(arguments[2].c_str(), nullptr, 10));
     if (arguments.size() >= 2 && arguments[0] == "lists")
         return measure_files({arguments.begin() + 1, arguments.end()});
-    fail("use: bench families FOLDER SEED, or bench lists FILE...");
+    fail("use: bench families FOLDER SEED, bench tidy FOLDER SEED, or bench lists FILE...");
 }

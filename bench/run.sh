@@ -1,11 +1,14 @@
 #!/bin/sh
-# Builds the archive of the C interface and the benchmark over it, and measures reduce, lift and pair next to LEMON.
+# Builds the archive of the C interface and the benchmark over it, and measures reduce, lift and pair next to LEMON, and
+# tidy next to std::sort and std::unique.
 #
-#     sh bench/run.sh [SEED]             every family of shapes; table and chart in target/bench
-#     sh bench/run.sh --record [SEED]    the same, and puts both into docs/PERFORMANCE.md and docs/performance.svg
-#     sh bench/run.sh --lists FILE...    these store lists; prints what the calls make of them, and the times
+#     sh bench/run.sh [SEED]                  every family of shapes, and tidy; tables and chart in target/bench
+#     sh bench/run.sh --record [SEED]         the same, and puts all into docs/PERFORMANCE.md and docs/performance.svg
+#     sh bench/run.sh --record-tidy [SEED]    tidy alone, and puts its table into docs/PERFORMANCE.md
+#     sh bench/run.sh --lists FILE...         these store lists; prints what the calls make of them, and the times
 #
-# LEMON takes part where liblemon-dev is installed. The exit status is 1 where a total is not LEMON's.
+# LEMON takes part where liblemon-dev is installed. The exit status is 1 where a total is not LEMON's, or where a store
+# list of tidy is not that of std::sort and std::unique.
 set -eu
 first=$PWD
 cd "$(dirname "$0")/.."
@@ -42,15 +45,23 @@ machine() {
     echo "the run (0 is a quiet machine); compiled with $(g++ --version | head -n 1)."
 }
 
-# Puts the measured part between its two marks in docs/PERFORMANCE.md, and the chart beside it.
+# Puts what was measured between the two marks of this name in docs/PERFORMANCE.md.
 record() {
-    awk -v part="$out/measured.md" '
-        /^<!-- measured: end -->$/ { inside = 0 }
+    awk -v mark="$1" -v part="$out/$1.md" '
+        $0 == "<!-- " mark ": end -->" { inside = 0 }
         !inside { print }
-        /^<!-- measured: start -->$/ { inside = 1; print ""; while ((getline line < part) > 0) print line; print "" }
+        $0 == "<!-- " mark ": start -->" {
+            inside = 1; print ""; while ((getline line < part) > 0) print line; print ""
+        }
     ' docs/PERFORMANCE.md > "$out/PERFORMANCE.md"
     cp "$out/PERFORMANCE.md" docs/PERFORMANCE.md
-    cp "$out/chart.svg" docs/performance.svg
+}
+
+# Ends the run where docs/PERFORMANCE.md has no marks of this name.
+marked() {
+    for end in start end; do
+        grep -q "^<!-- $1: $end -->\$" docs/PERFORMANCE.md || fail "docs/PERFORMANCE.md has no mark '$1: $end'"
+    done
 }
 
 # Every family, with this seed.
@@ -59,6 +70,13 @@ measure() {
     { machine; echo; cat "$out/table.md"; } > "$out/measured.md"
     cat "$out/measured.md"
     echo "The chart is $out/chart.svg."
+}
+
+# Tidy, with this seed.
+measure_tidy() {
+    "$out/bench" tidy "$out" "$1"
+    { machine; echo; cat "$out/tidy.md"; } > "$out/measured-tidy.md"
+    cat "$out/measured-tidy.md"
 }
 
 # Ends the run with a message.
@@ -86,14 +104,26 @@ case "${1:-}" in
     ;;
 --record)
     chosen=$(seed "${2:-}")
-    grep -q '^<!-- measured: start -->$' docs/PERFORMANCE.md || fail "docs/PERFORMANCE.md has no place for the tables"
+    marked measured
+    marked measured-tidy
     build
     measure "$chosen"
-    record
+    measure_tidy "$chosen"
+    record measured
+    cp "$out/chart.svg" docs/performance.svg
+    record measured-tidy
+    ;;
+--record-tidy)
+    chosen=$(seed "${2:-}")
+    marked measured-tidy
+    build
+    measure_tidy "$chosen"
+    record measured-tidy
     ;;
 *)
     chosen=$(seed "${1:-}")
     build
     measure "$chosen"
+    measure_tidy "$chosen"
     ;;
 esac

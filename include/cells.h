@@ -82,6 +82,16 @@ uint32_t cells_pair(const uint8_t *list, size_t list_len,
                     uint64_t *pairing_len,
                     uint64_t *origins_len);
 
+/* Tidies a raw list (kind 6), the pairs in the order they were run, either cell first and some run again: writes the
+ * store list (kind 1) of them, of *store_len bytes, lower cell first and ascending; of repeated pairs the last points
+ * stand. Refusals, in this order: 1, 13 (a wrong kind, zero bit, n, m or length of the raw list, or an entry with one
+ * cell twice or a cell not below n), 12 (the output is shorter than the store list). */
+uint32_t cells_tidy(const uint8_t *raw, size_t raw_len,
+                    uint64_t *work_a, size_t work_a_len,
+                    uint64_t *work_b, size_t work_b_len,
+                    uint8_t *store, size_t store_room,
+                    uint64_t *store_len);
+
 /* Serves the entry at a place of a store list, the first being at 0: returns 1, and *a, *b and *points are the
  * entry's cells and points. Returns 0 and changes none of the three where the list is refused (2 to 6) or has no
  * entry at that place. */

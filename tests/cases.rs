@@ -5,8 +5,16 @@ use crate::graph::{heaviest_of_path, heaviest_of_ring, Graph, Step, CHAIN, LEAF,
 use crate::lifting::{self, Held, Lifted, Origin, Taken};
 use crate::reference::{Answer, Input, Pair, MOST_CELLS, MOST_SOLVED, WORK_WORDS};
 
-/// Cases of every call: of the steps taken, of the list, of what is lent.
-pub const OF_ALL: [&str; 25] = [
+/// Cases of every call, of what is lent.
+pub const OF_LENT: [&str; 4] = [
+    "exactly enough room",
+    "more room than needed",
+    "work buffers of more words",
+    "an output absent",
+];
+
+/// Cases of every call that takes steps, of them and of the list.
+pub const OF_STEPS: [&str; 21] = [
     "leaf of a lone pair",
     "leaf at a cell of more pairs",
     "leaf that takes a pair to zero",
@@ -28,10 +36,6 @@ pub const OF_ALL: [&str; 25] = [
     "100 steps or more",
     "300 steps or more",
     "1,000 cells or more with pairs",
-    "exactly enough room",
-    "more room than needed",
-    "work buffers of more words",
-    "an output absent",
 ];
 
 /// Cases of the calls that can leave so much.
@@ -119,7 +123,7 @@ pub const OF_ORIGINS: [&str; 10] = [
     "pair from step 300 or a later one",
 ];
 
-/// The cases that hold of a call, with what it was lent and its answer.
+/// The cases that hold of a call that takes steps, with what it was lent and its answer.
 pub fn cases(
     input: &Input,
     work: [usize; 2],
@@ -248,8 +252,8 @@ fn of_chain(taken: &Taken, before: [usize; 2], after: &Graph) -> Vec<&'static st
     met
 }
 
-// Cases of what an accepted call is lent.
-fn of_room(input: &Input, work: [usize; 2], room: &[usize]) -> Vec<&'static str> {
+/// Cases of what an accepted call is lent.
+pub fn of_room(input: &Input, work: [usize; 2], room: &[usize]) -> Vec<&'static str> {
     let mut met = vec![if input.lengths() == room {
         "exactly enough room"
     } else {
@@ -271,8 +275,8 @@ fn of_bad_step(input: &Input) -> Vec<&'static str> {
     }]
 }
 
-// Cases of outputs that are too short.
-fn of_short_room(lengths: &[usize], room: &[usize]) -> Vec<&'static str> {
+/// Cases of outputs that are too short.
+pub fn of_short_room(lengths: &[usize], room: &[usize]) -> Vec<&'static str> {
     let missing = |output: usize| lengths[output].saturating_sub(room[output]);
     let mut met = Vec::new();
     match (lengths.len(), missing(0), missing(lengths.len() - 1)) {

@@ -1,11 +1,11 @@
 //! The comparison: every call of the C interface against the independent
 //! implementation, on worked rows and on many random inputs.
 //!
-//!     compare [SEED [CALLS [WRITING CALLS [LIFTING CALLS [ENTRY CALLS]]]]]
+//!     compare [SEED [CALLS [WRITING CALLS [LIFTING CALLS [ENTRY CALLS [TIDY CALLS]]]]]]
 //!
 //! CALLS are those of weigh, WRITING CALLS those of replay and reduce together,
 //! LIFTING CALLS those of solve, lift and pair together, ENTRY CALLS those of
-//! entry.
+//! entry, TIDY CALLS those of tidy.
 //! Each call is made over lent memory with guards round it. Its number, its
 //! answers, every work word and every byte it was lent are looked at afterwards.
 //! Exit status 1 if anything differs, or if some answer was met too seldom.
@@ -29,6 +29,7 @@ mod lifting;
 mod lifting_rows;
 mod pair;
 mod pairings;
+mod raws;
 mod reduce;
 mod reference;
 mod replay;
@@ -37,6 +38,9 @@ mod selfcheck;
 mod shapes;
 mod slips;
 mod solve;
+mod tidy;
+mod tidy_rows;
+mod tidycheck;
 mod weigh;
 mod writing;
 
@@ -49,15 +53,16 @@ const WRITING_CALLS: u64 = 20_000;
 /// Seven tenths of them, 21,000, are calls of lift and pair, which write two files.
 const LIFTING_CALLS: u64 = 30_000;
 const ENTRY_CALLS: u64 = 5_000;
+const TIDY_CALLS: u64 = 12_000;
 
 // The seed and the numbers of calls, from the arguments where they are given.
-fn arguments() -> Option<[u64; 5]> {
+fn arguments() -> Option<[u64; 6]> {
     let words: Vec<String> = env::args().skip(1).collect();
     let number = |place: usize, usual: u64| match words.get(place) {
         None => Some(usual),
         Some(word) => word.parse().ok(),
     };
-    if words.len() > 5 {
+    if words.len() > 6 {
         return None;
     }
     Some([
@@ -66,6 +71,7 @@ fn arguments() -> Option<[u64; 5]> {
         number(2, WRITING_CALLS)?,
         number(3, LIFTING_CALLS)?,
         number(4, ENTRY_CALLS)?,
+        number(5, TIDY_CALLS)?,
     ])
 }
 
@@ -93,8 +99,11 @@ fn print_time(seed: u64, calls: u64, start: Instant) {
 
 // Runs the comparison and ends with 0, 1 for a difference or too few calls, 2 for bad arguments.
 fn main() {
-    let Some([seed, calls, writing_calls, lifting_calls, entry_calls]) = arguments() else {
-        println!("usage: compare [SEED [CALLS [WRITING CALLS [LIFTING CALLS [ENTRY CALLS]]]]]");
+    let Some([seed, calls, writing_calls, lifting_calls, entry_calls, tidy_calls]) = arguments()
+    else {
+        println!(
+            "usage: compare [SEED [CALLS [WRITING CALLS [LIFTING CALLS [ENTRY CALLS [TIDY CALLS]]]]]]"
+        );
         exit(2);
     };
     let start = Instant::now();
@@ -103,6 +112,7 @@ fn main() {
     let mut short = weighing.print();
     selfcheck::run(seed);
     liftcheck::run(seed);
+    tidycheck::run(seed);
     let half = writing_calls / 2;
     short.extend(compare_writing::<replay::Replay>(seed, 0..half));
     short.extend(compare_writing::<reduce::Reduce>(seed, half..writing_calls));
@@ -111,7 +121,11 @@ fn main() {
     short.extend(compare_writing::<solve::Solve>(seed, writing_calls..solved));
     short.extend(compare_writing::<lift::Lift>(seed, solved..lifted));
     short.extend(compare_writing::<pair::Pair>(seed, lifted..end));
-    short.extend(compare_entry(seed, end..end + entry_calls));
+    let entries_end = end + entry_calls;
+    short.extend(compare_entry(seed, end..entries_end));
+    let tidy_end = entries_end + tidy_calls;
+    short.extend(compare_writing::<tidy::Tidy>(seed, entries_end..tidy_end));
+    tidy::run_others(seed);
     for line in &short {
         println!("{line}");
     }

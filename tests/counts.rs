@@ -4,14 +4,14 @@ use std::collections::BTreeMap;
 
 use crate::lent::WORK_LENGTHS;
 
-/// How often acceptance, each refusal, each refusal beside each later one, and
-/// each name of a tally that does not say more must be met at least.
+/// How often acceptance, each refusal and each refusal beside each later one must
+/// be met at least.
 const FEWEST_ACCEPTED: u64 = 1000;
 const FEWEST_REFUSED: u64 = 100;
 const FEWEST_BESIDE: u64 = 20;
-const FEWEST_NAMED: u64 = 5;
 
-/// What was met of one call so far; `refusals` are those that the call has.
+/// What was met of one call so far; `refusals` are those that the call has, in
+/// checking order.
 pub struct Counts {
     refusals: &'static [u32],
     calls: u64,
@@ -72,9 +72,9 @@ impl Counts {
     fn print_order(&self) {
         println!("later refusals (column) that held beside the one answered (row)");
         println!("  {:>4}{}", "", columns(self.refusals));
-        for &first in self.refusals {
-            let row = self.refusals.iter().map(|&other| {
-                if other > first {
+        for (place, &first) in self.refusals.iter().enumerate() {
+            let row = self.refusals.iter().enumerate().map(|(at, &other)| {
+                if at > place {
                     self.beside(first, other).to_string()
                 } else {
                     String::new()
@@ -117,10 +117,10 @@ impl Counts {
     pub fn shortfalls(&self) -> Vec<String> {
         let mut short = Vec::new();
         need(&mut short, "acceptance", self.accepted, FEWEST_ACCEPTED);
-        for &first in self.refusals {
+        for (place, &first) in self.refusals.iter().enumerate() {
             let name = format!("refusal {first}");
             need(&mut short, &name, self.refused(first), FEWEST_REFUSED);
-            for &other in self.refusals.iter().filter(|&&other| other > first) {
+            for &other in &self.refusals[place + 1..] {
                 let name = format!("refusal {first} beside {other}");
                 need(&mut short, &name, self.beside(first, other), FEWEST_BESIDE);
             }
@@ -138,11 +138,6 @@ pub struct Tally {
 }
 
 impl Tally {
-    /// Nothing met yet of these names.
-    pub fn new(title: &'static str, names: &[&'static str]) -> Tally {
-        Tally::at_least(FEWEST_NAMED, title, names)
-    }
-
     /// Nothing met yet of these names, each of which must be met so often.
     pub fn at_least(fewest: u64, title: &'static str, names: &[&'static str]) -> Tally {
         Tally {

@@ -245,6 +245,7 @@ fn rows_of_damage() -> Vec<WorkedRow> {
         refused("three bytes", &FIRST_LIST[..3], 2),
         refused("kind 0", &header([0x00, 0x08, 0x00, 0x30]), 2),
         refused("kind 4", &header([0x40, 0x08, 0x00, 0x30]), 2),
+        refused("a raw list", &header([0x60, 0x08, 0x00, 0x30]), 2),
         refused("a zero bit set", &header([0x10, 0x08, 0x00, 0x31]), 2),
         refused("n = 1,025", &header([0x18, 0x02, 0x00, 0x30]), 3),
         refused("n = 2,047", &header([0x1F, 0xFE, 0x00, 0x30]), 3),

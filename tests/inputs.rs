@@ -9,7 +9,7 @@ use std::collections::BTreeSet;
 
 use crate::reference::{
     Pack, HEADER_BITS, LIST_BITS, LIST_KIND, MOST_CELLS, MOST_ENTRIES, PAIRING_BITS, PAIRING_KIND,
-    SLIP_BITS, SLIP_KIND,
+    RAW_LIST_KIND, SLIP_BITS, SLIP_KIND,
 };
 
 /// The largest cell number that 10 bits hold, and the largest points of 20 bits.
@@ -90,7 +90,7 @@ impl Random {
 /// step rule and cell, then nothing.
 pub type Entry = [u64; 3];
 
-/// A list, slip or pairing before it is packed. `extra` is appended to its bytes,
+/// A list, raw list, slip or pairing before it is packed. `extra` is appended to its bytes,
 /// then only the first `keep` of them stay.
 #[derive(Clone)]
 pub struct Form {
@@ -123,6 +123,11 @@ impl Form {
     /// A store list of these entries.
     pub fn list(n: u64, entries: Vec<Entry>) -> Form {
         Form::new(LIST_KIND, n, LIST_BITS, entries)
+    }
+
+    /// A raw list of these entries.
+    pub fn raw_list(n: u64, entries: Vec<Entry>) -> Form {
+        Form::new(RAW_LIST_KIND, n, LIST_BITS, entries)
     }
 
     /// A slip of these steps.
@@ -159,8 +164,8 @@ impl Form {
         self.entry_bits.iter().sum::<usize>() / 8
     }
 
-    // Makes m the number of entries again.
-    fn count(&mut self) {
+    /// Makes m the number of entries again.
+    pub fn count(&mut self) {
         self.m = self.entries.len() as u64;
     }
 }
@@ -368,8 +373,8 @@ fn spoil_header_zero(random: &mut Random, form: &mut Form) {
     };
 }
 
-// n above 1,024, m above 4,096, or both; m with a length that fits once in a while.
-fn spoil_sizes(random: &mut Random, list: &mut Form) {
+/// n above 1,024, m above 4,096, or both; m with a length that fits once in a while.
+pub fn spoil_sizes(random: &mut Random, list: &mut Form) {
     let choice = random.below(5);
     if choice <= 2 {
         list.n = if random.once_in(2) {
@@ -385,7 +390,7 @@ fn spoil_sizes(random: &mut Random, list: &mut Form) {
             random.between(MOST_ENTRIES + 1, LARGEST_M)
         };
         if random.once_in(6) {
-            let missing = list.m as usize - list.entries.len();
+            let missing = (list.m as usize).saturating_sub(list.entries.len());
             list.extra = vec![0; missing * list.entry_bytes()];
         }
     }

@@ -41,6 +41,7 @@ impl Call for Lift {
     const NAME: &'static str = "lift";
     const REFUSALS: &'static [u32] = &[1, 2, 3, 4, 5, 6, 7, 8, 9, 10, 12];
     const CASES: &'static [&'static [&'static str]] = &[
+        &cases::OF_STEPS,
         &cases::OF_SLIP,
         &cases::OF_MANY_LEFT,
         &cases::OF_WAY_BACK,

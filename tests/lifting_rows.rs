@@ -8,7 +8,7 @@ use crate::inputs::{Entry, Form};
 use crate::lifting::Origin;
 use crate::reference::{self, Pair};
 use crate::rows::{
-    self, all_pairs, first_pairs, list, slip, Row, FIRST, FIRST_LIST, PLENTY, TRIANGLE,
+    self, all_pairs, first_pairs, list, of_raw_kind, slip, Row, FIRST, FIRST_LIST, PLENTY, TRIANGLE,
 };
 
 // Notation
@@ -247,6 +247,13 @@ fn solve_rows_of_refusals() -> Vec<Row> {
         row("chain 2", FIRST_LIST.to_vec(), slip(4, "chain 2"), 8),
         row("no slip", FIRST_LIST.to_vec(), vec![], 7),
         row("no list", vec![], slip(4, ""), 2),
+        row("a raw list", of_raw_kind(&FIRST_LIST), slip(4, ""), 2),
+        row(
+            "a slip of kind 6",
+            FIRST_LIST.to_vec(),
+            of_raw_kind(&slip(4, "")),
+            7,
+        ),
         row(
             "m = 4,097",
             Form::list(1024, first_pairs(4097)).bytes(),
@@ -663,9 +670,18 @@ fn lift_rows_of_order() -> Vec<Row> {
         row.room = room.to_vec();
         row
     };
+    let of_kind_six = |place: usize, number| {
+        let mut row = lifted(4, FIRST, "", "0-1", "0-1 short");
+        row.name = format!("file {place} of kind 6");
+        row.files[place] = of_raw_kind(&row.files[place]);
+        Row::new(&row.name, row.files, 2, Err(number))
+    };
     let refused = || not_lifted(4, FIRST, "", "0-3", 10);
     let too_long = || not_lifted(4, FIRST, "leaf 0, leaf 2", "", 12);
     vec![
+        of_kind_six(0, 2),
+        of_kind_six(1, 7),
+        of_kind_six(2, 9),
         row("6 before 7", list(4, "1-2:1, 0-1:1"), vec![], vec![], 6),
         row(
             "5 before 6",
@@ -812,6 +828,7 @@ fn pair_rows_of_refusals() -> Vec<Row> {
         refused("no list", vec![], 2),
         refused("a pairing for a list", FIRST_PAIRING.to_vec(), 2),
         refused("an origin list for a list", FROM_LEAVES.to_vec(), 2),
+        refused("a raw list", of_raw_kind(&FIRST_LIST), 2),
         refused("n = 1,025", list(1025, "0-1023:7"), 3),
         refused("a byte too many", [&FIRST_LIST[..], &[0]].concat(), 4),
         refused("n = 1,023 with cell 1,023", list(1023, "0-1023:7"), 5),

@@ -33,6 +33,7 @@ impl Call for Pair {
     const NAME: &'static str = "pair";
     const REFUSALS: &'static [u32] = &[1, 2, 3, 4, 5, 6, 11, 12];
     const CASES: &'static [&'static [&'static str]] = &[
+        &cases::OF_STEPS,
         &cases::OF_SOLVING,
         &cases::OF_WAY_BACK,
         &cases::OF_ORIGINS,

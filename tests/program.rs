@@ -28,7 +28,7 @@ mod slips;
 
 use inputs::{Entry, Form, Random};
 use printed::{printed, MOST_READ};
-use rows::{all_pairs, first_pairs, list, FIRST_LIST};
+use rows::{all_pairs, first_pairs, list, raw_list, FIRST_LIST};
 
 const PROGRAM: &str = "target/bin/pairing";
 const SEED: u64 = 20_180_820;
@@ -48,12 +48,13 @@ total 20
 ";
 
 /// The samples with their last line, as samples/README.md has them.
-const SAMPLES: [(&str, &str); 7] = [
+const SAMPLES: [(&str, &str); 8] = [
     ("first", "total 20\n"),
     ("triangle", "total 5\n"),
     ("ring-of-four", "total 10\n"),
     ("workshop", "total 11427\n"),
     ("store", "total 306341482\n"),
+    ("rig", "total 2750\n"),
     ("thirteen", "refused 11\n"),
     ("damaged", "refused 4\n"),
 ];
@@ -201,11 +202,13 @@ fn run_worked_refusals(runs: &mut Runs) {
         change(&mut form);
         form.bytes()
     };
-    let refused: [(&str, Vec<u8>, u32); 17] = [
+    let refused: [(&str, Vec<u8>, u32); 19] = [
         ("no input", vec![], 2),
         ("three bytes", FIRST_LIST[..3].to_vec(), 2),
         ("kind 2", first(&|form| form.kind = 2), 2),
         ("kind 0", first(&|form| form.kind = 0), 2),
+        ("kind 6", first(&|form| form.kind = 6), 2),
+        ("a raw list", raw_list(4, "3-1:5, 0-1:7, 1-3:9"), 2),
         ("a header zero bit", first(&|form| form.zero = 1), 2),
         ("n = 1,025", first(&|form| form.n = 1025), 3),
         ("m = 4,097", first(&|form| form.m = 4097), 3),

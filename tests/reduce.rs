@@ -31,7 +31,8 @@ pub struct Reduce;
 impl Call for Reduce {
     const NAME: &'static str = "reduce";
     const REFUSALS: &'static [u32] = &[1, 2, 3, 4, 5, 6, 12];
-    const CASES: &'static [&'static [&'static str]] = &[&cases::OF_MANY_LEFT, &cases::OF_TWO_FILES];
+    const CASES: &'static [&'static [&'static str]] =
+        &[&cases::OF_STEPS, &cases::OF_MANY_LEFT, &cases::OF_TWO_FILES];
 
     fn rows() -> Vec<Row> {
         rows::reduce_rows()

@@ -22,10 +22,11 @@ pub const SHORT_LIST_KIND: u64 = 2;
 pub const SLIP_KIND: u64 = 3;
 pub const PAIRING_KIND: u64 = 4;
 pub const ORIGINS_KIND: u64 = 5;
+pub const RAW_LIST_KIND: u64 = 6;
 
 /// The bits of the header's fields: kind, cells n, count m, zero bits.
 pub const HEADER_BITS: [usize; 4] = [4, 11, 13, 4];
-/// The bits of a store list's entry: cell a, cell b, points.
+/// The bits of an entry of a store list or a raw list: cell a, cell b, points.
 pub const LIST_BITS: [usize; 3] = [10, 10, 20];
 /// The bits of a short list's carried points and of its entry: cell a, cell b, points.
 pub const CARRIED_BITS: [usize; 1] = [64];
@@ -41,9 +42,22 @@ const HEADER_BYTES: usize = 4;
 const LIST_ENTRY_BYTES: u64 = 5;
 const SLIP_STEP_BYTES: u64 = 2;
 const PAIRING_ENTRY_BYTES: u64 = 3;
-const LAST_REFUSAL: u32 = 12;
+/// The refusals in checking order: 13 comes after 1, and for a raw list in place of 2 to 6.
+const CHECKING_ORDER: [u32; 13] = [1, 13, 2, 3, 4, 5, 6, 7, 8, 9, 10, 11, 12];
 /// The refusals of a store list.
 const LIST_REFUSALS: [u32; 5] = [2, 3, 4, 5, 6];
+/// What refusal 13 is given for.
+pub const RAW_LIST_FAULTS: [&str; 9] = [
+    "shorter than 4 bytes",
+    "kind not 6",
+    "a header zero bit set",
+    "n above 1,024",
+    "m above 4,096",
+    "length not 4 + 5 m",
+    "one cell twice",
+    "cell a not below n",
+    "cell b not below n",
+];
 
 /// Two cells, the lower one first.
 pub type Pair = (u64, u64);
@@ -133,15 +147,15 @@ impl Header {
     }
 }
 
-/// One entry of a store list.
+/// One entry of a store list or a raw list.
 struct ListEntry {
     a: u64,
     b: u64,
     points: u64,
 }
 
-/// A store list as it lies in its bytes, right or wrong: no header if it is
-/// shorter than one, and every entry that is there whole, whatever m says.
+/// A store list or a raw list as it lies in its bytes, right or wrong: no header if
+/// it is shorter than one, and every entry that is there whole, whatever m says.
 struct List {
     length: usize,
     header: Option<Header>,
@@ -171,6 +185,25 @@ impl List {
             .map(|entry| ((entry.a, entry.b), entry.points))
             .collect()
     }
+
+    // The last points of each pair, by place in the file, whichever cell comes first.
+    fn last_points(&self) -> BTreeMap<Pair, u64> {
+        let mut last = BTreeMap::new();
+        for &ListEntry { a, b, points } in &self.entries {
+            last.insert((a.min(b), a.max(b)), points);
+        }
+        last
+    }
+}
+
+// The bytes of a store list of n cells, its pairs in order with their points.
+fn list_file(n: u64, points: &BTreeMap<Pair, u64>) -> Vec<u8> {
+    let mut pack = Pack::default();
+    pack.fields([LIST_KIND, n, points.len() as u64, 0], HEADER_BITS);
+    for (&(a, b), &points) in points {
+        pack.fields([a, b, points], LIST_BITS);
+    }
+    pack.bytes()
 }
 
 /// A slip as it lies in its bytes, read like `List`.
@@ -281,7 +314,8 @@ impl Pairing {
 // Refusals
 
 /// What a call is given. A call without a slip or a pairing has none here;
-/// `graph` is what the pairing is for, each pair with its points there.
+/// `graph` is what the pairing is for, each pair with its points there. The list
+/// of tidy is a raw one.
 ///
 /// A call that writes files also has what comes of its list: the steps of its
 /// slip or of reduce, the place of the first step that is not allowed, what
@@ -292,6 +326,7 @@ impl Pairing {
 pub struct Input {
     work: [usize; 2],
     list: List,
+    is_raw: bool,
     slip: Option<Slip>,
     pairing: Option<Pairing>,
     graph: BTreeMap<Pair, u64>,
@@ -404,10 +439,38 @@ fn too_many_are_left(left: &Left) -> bool {
     left.graph.cells().count() > MOST_SOLVED
 }
 
+// Refusal 13: what is wrong with a raw list, each clause looked at by itself.
+fn raw_list_faults(list: &List) -> Vec<&'static str> {
+    let Some(header) = &list.header else {
+        return vec![RAW_LIST_FAULTS[0]];
+    };
+    let some = |wrong: fn(&ListEntry, u64) -> bool| {
+        let mut entries = list.entries.iter();
+        entries.any(|entry| wrong(entry, header.n))
+    };
+    let clauses = [
+        header.kind != RAW_LIST_KIND,
+        header.zero != 0,
+        header.n > MOST_CELLS,
+        header.m > MOST_ENTRIES,
+        !length_fits(list.length, header.m, LIST_ENTRY_BYTES),
+        some(|entry, _| entry.a == entry.b),
+        some(|entry, n| entry.a >= n),
+        some(|entry, n| entry.b >= n),
+    ];
+    let faults = RAW_LIST_FAULTS[1..].iter().zip(clauses);
+    faults
+        .filter(|&(_, holds)| holds)
+        .map(|(&name, _)| name)
+        .collect()
+}
+
 // Whether the refusal of this number holds, where the call has that input.
 fn holds(number: u32, input: &Input) -> bool {
     match number {
         1 => input.work.iter().any(|&words| words < WORK_WORDS),
+        13 => input.is_raw && !raw_list_faults(&input.list).is_empty(),
+        2..=6 if input.is_raw => false,
         2 => list_start_is_wrong(&input.list),
         3 => list_is_too_large(&input.list),
         4 => list_length_is_wrong(&input.list),
@@ -432,9 +495,10 @@ fn holds(number: u32, input: &Input) -> bool {
     }
 }
 
-// The first refusal that holds, in the order of the numbers.
+// The first refusal that holds, in checking order.
 fn first_refusal(input: &Input) -> Option<u32> {
-    (1..=LAST_REFUSAL).find(|&number| holds(number, input))
+    let mut numbers = CHECKING_ORDER.into_iter();
+    numbers.find(|&number| holds(number, input))
 }
 
 // Calls
@@ -485,6 +549,7 @@ impl Input {
         Input {
             work: [0; 2],
             list: List::read(list),
+            is_raw: false,
             slip: None,
             pairing: None,
             graph: BTreeMap::new(),
@@ -556,6 +621,15 @@ impl Input {
         input
     }
 
+    /// What tidy is given, a raw list; it writes the store list: lower cell first,
+    /// ascending, and of repeated pairs the last points stand.
+    pub fn tidy(raw: &[u8]) -> Input {
+        let mut input = Input::over(raw);
+        input.is_raw = true;
+        input.files = vec![list_file(input.n(), &input.list.last_points())];
+        input
+    }
+
     // Solves what is left; with too many cells left the pairing stays empty,
     // which is the shortest that any could be.
     fn solve_left(&mut self) {
@@ -600,6 +674,19 @@ impl Input {
         self.list.points()
     }
 
+    /// The cells and points of each entry of the list, in the order of the file.
+    pub fn entries_in_place(&self) -> Vec<[u64; 3]> {
+        let entries = self.list.entries.iter();
+        entries
+            .map(|entry| [entry.a, entry.b, entry.points])
+            .collect()
+    }
+
+    /// What is wrong with the raw list.
+    pub fn raw_list_faults(&self) -> Vec<&'static str> {
+        raw_list_faults(&self.list)
+    }
+
     /// The cells of each pair that the call is given to lift, good or bad.
     pub fn given_pairs(&self) -> Vec<Pair> {
         let entries = self.pairing.iter().flat_map(|pairing| &pairing.entries);
@@ -637,9 +724,8 @@ impl Input {
 
     /// Every refusal that holds, each looked at by itself over what can be read.
     pub fn refusals(&self) -> Vec<u32> {
-        (1..=LAST_REFUSAL)
-            .filter(|&number| holds(number, self))
-            .collect()
+        let numbers = CHECKING_ORDER.into_iter();
+        numbers.filter(|&number| holds(number, self)).collect()
     }
 }
 

@@ -31,8 +31,12 @@ pub struct Replay;
 impl Call for Replay {
     const NAME: &'static str = "replay";
     const REFUSALS: &'static [u32] = &[1, 2, 3, 4, 5, 6, 7, 8, 12];
-    const CASES: &'static [&'static [&'static str]] =
-        &[&cases::OF_SLIP, &cases::OF_MANY_LEFT, &cases::OF_ONE_FILE];
+    const CASES: &'static [&'static [&'static str]] = &[
+        &cases::OF_STEPS,
+        &cases::OF_SLIP,
+        &cases::OF_MANY_LEFT,
+        &cases::OF_ONE_FILE,
+    ];
 
     fn rows() -> Vec<Row> {
         rows::replay_rows()

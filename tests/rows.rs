@@ -58,6 +58,16 @@ pub fn list(n: u64, text: &str) -> Vec<u8> {
     Form::list(n, entries.collect()).bytes()
 }
 
+/// The raw list of these pairs.
+pub fn raw_list(n: u64, text: &str) -> Vec<u8> {
+    of_raw_kind(&list(n, text))
+}
+
+/// A file with its kind changed to 6, that of a raw list.
+pub fn of_raw_kind(file: &[u8]) -> Vec<u8> {
+    [&[0x60 | file[0] & 0x0F], &file[1..]].concat()
+}
+
 // Steps, written as rule and cell and separated by commas.
 fn steps(text: &str) -> Vec<Named> {
     let step = |word: &str| {
@@ -239,6 +249,7 @@ fn reduce_rows_of_refusals() -> Vec<Row> {
     vec![
         refused("no list", vec![], 2),
         refused("a slip for a list", TWO_LEAVES.to_vec(), 2),
+        refused("a raw list", of_raw_kind(&FIRST_LIST), 2),
         refused("n = 1,025", list(1025, "0-1023:7"), 3),
         refused("a byte too many", [&FIRST_LIST[..], &[0]].concat(), 4),
         refused("n = 1,023 with cell 1,023", list(1023, "0-1023:7"), 5),
@@ -385,7 +396,10 @@ fn replay_rows_of_refusals() -> Vec<Row> {
     without_room.room = vec![0];
     let mut zero_bit = slips::form(4, &steps("leaf 0"));
     zero_bit.zero = 1;
+    let raw_and_slip = vec![of_raw_kind(&FIRST_LIST), TWO_LEAVES.to_vec()];
     vec![
+        Row::new("a raw list", raw_and_slip, 1, Err(2)),
+        refused("a slip of kind 6", of_raw_kind(&TWO_LEAVES), 7),
         // Only the very cell that the rule calls v or z is right.
         not_replayed(4, FIRST, "chain 2", 8),
         not_replayed(4, FIRST, "leaf 1", 8),

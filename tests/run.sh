@@ -1,6 +1,7 @@
 #!/bin/sh
 # Proves and builds the archive of the C interface and the program, then the comparison over the one and the test of the
-# other, and runs both from the repository's root. A seed and numbers of calls may be given to the comparison.
+# other, and runs both from the repository's root; then the test of the filter around tidy. A seed and numbers of calls
+# may be given to the comparison.
 set -eu
 
 rt check cells_c pairing
@@ -13,3 +14,4 @@ rustc -O -C overflow-checks=on --edition 2021 -o target/tests/compare tests/comp
 wait "$program"
 target/tests/compare "$@"
 target/tests/program target/bin/pairing
+sh tests/filter.sh

@@ -425,8 +425,8 @@ fn size(random: &mut Random) -> u64 {
     }
 }
 
-// A list of 4,096 entries: any, or a shape among entries of zero points.
-fn full_list(random: &mut Random) -> Form {
+/// A list of 4,096 entries: any, or a shape among entries of zero points.
+pub fn full_list(random: &mut Random) -> Form {
     let mut draft = Draft {
         cells: random.between(MOST_CORE_CELLS + 1, MOST_CELLS),
         ..Draft::default()

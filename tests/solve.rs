@@ -32,8 +32,12 @@ pub struct Solve;
 impl Call for Solve {
     const NAME: &'static str = "solve";
     const REFUSALS: &'static [u32] = &[1, 2, 3, 4, 5, 6, 7, 8, 11, 12];
-    const CASES: &'static [&'static [&'static str]] =
-        &[&cases::OF_SLIP, &cases::OF_SOLVING, &cases::OF_ONE_FILE];
+    const CASES: &'static [&'static [&'static str]] = &[
+        &cases::OF_STEPS,
+        &cases::OF_SLIP,
+        &cases::OF_SOLVING,
+        &cases::OF_ONE_FILE,
+    ];
 
     fn rows() -> Vec<Row> {
         lifting_rows::solve_rows()

@@ -7,6 +7,7 @@ use crate::counts::Counts;
 use crate::inputs::{self, Entry, Form, Random};
 use crate::lent::{self, hexadecimal, Files, Work, WORK_LENGTHS};
 use crate::reference::{self, WORK_WORDS};
+use crate::rows::of_raw_kind;
 
 /// The refusals that weighing has.
 const REFUSALS: [u32; 8] = [1, 2, 3, 4, 5, 6, 9, 10];
@@ -27,8 +28,8 @@ extern "C" {
     ) -> u32;
 }
 
-// Calls weigh: 0 with the points written, or the refusal's number.
-fn call_weigh(
+/// Calls weigh: 0 with the points written, or the refusal's number.
+pub fn call_weigh(
     list: &[u8],
     pairing: &[u8],
     work_a: &mut [u64],
@@ -164,6 +165,18 @@ fn rows_in_bytes() -> Vec<WorkedRow> {
         ),
         row("an empty list", vec![], FIRST_PAIRING.to_vec(), Err(2)),
         row("an empty pairing file", FIRST_LIST.to_vec(), vec![], Err(9)),
+        row(
+            "a raw list",
+            of_raw_kind(&FIRST_LIST),
+            FIRST_PAIRING.to_vec(),
+            Err(2),
+        ),
+        row(
+            "a pairing of kind 6",
+            FIRST_LIST.to_vec(),
+            of_raw_kind(&FIRST_PAIRING),
+            Err(9),
+        ),
     ]
 }
 

@@ -1,5 +1,5 @@
-//! The comparison of the calls that write files, replay, reduce, solve, lift
-//! and pair: worked rows, random calls, and the check of one call against the
+//! The comparison of the calls that write files, replay, reduce, solve, lift,
+//! pair and tidy: worked rows, random calls, and the check of one call against the
 //! reference.
 
 use std::ops::Range;
@@ -12,14 +12,19 @@ use crate::inputs::Random;
 use crate::lent::{self, Files, Outputs, Work};
 use crate::reference::{Answer, Input};
 use crate::rows::Row;
-use crate::shapes::FAMILIES;
+use crate::shapes;
 
 /// A call that writes files.
 pub trait Call {
     const NAME: &'static str;
+    /// The refusals of the call in checking order.
     const REFUSALS: &'static [u32];
+    /// The families of the lists of random calls.
+    const FAMILIES: &'static [&'static str] = &shapes::FAMILIES;
     /// The cases that must be met, in groups, beside those of every call.
     const CASES: &'static [&'static [&'static str]];
+    /// How often each family must be accepted and each case met at least.
+    const FEWEST: u64 = 5;
 
     /// The worked rows.
     fn rows() -> Vec<Row>;
@@ -34,6 +39,15 @@ pub trait Call {
         outputs: Vec<&mut [u8]>,
         lengths: &mut [u64],
     ) -> u32;
+    /// The cases that hold of a call, with what it was lent and its answer.
+    fn cases(
+        input: &Input,
+        work: [usize; 2],
+        room: &[usize],
+        answer: &Answer,
+    ) -> Vec<&'static str> {
+        cases::cases(input, work, room, answer)
+    }
 }
 
 /// What one call is given, the words of the work buffers and outputs apart.
@@ -94,12 +108,13 @@ pub struct Comparison<C: Call> {
 impl<C: Call> Comparison<C> {
     // Nothing met yet.
     fn new() -> Self {
-        let names = [&cases::OF_ALL[..], &C::CASES.concat()].concat();
+        let names = [&cases::OF_LENT[..], &C::CASES.concat()].concat();
+        let tally = |title, names| Tally::at_least(C::FEWEST, title, names);
         Comparison {
             counts: Counts::new(C::REFUSALS),
-            families: Tally::new("calls by family of the list", &FAMILIES),
-            accepted_families: Tally::new("accepted calls by family", &FAMILIES),
-            cases: Tally::new("special cases", &names),
+            families: tally("calls by family of the list", C::FAMILIES),
+            accepted_families: tally("accepted calls by family", C::FAMILIES),
+            cases: tally("special cases", &names),
             steps: 0,
             most_steps: 0,
             time: Duration::ZERO,
@@ -169,7 +184,7 @@ impl<C: Call> Comparison<C> {
             Ok(_) => self.counts.accept(given.work),
             Err(number) => self.counts.refuse(given.work, *number, &input.refusals()),
         }
-        for case in cases::cases(input, given.work, &given.room, answer) {
+        for case in C::cases(input, given.work, &given.room, answer) {
             self.cases.meet(case);
         }
         if answer.is_ok() {
@@ -223,10 +238,12 @@ impl<C: Call> Comparison<C> {
         self.families.print();
         self.accepted_families.print();
         self.cases.print();
-        println!(
-            "steps of accepted calls {}, most in one {}",
-            self.steps, self.most_steps
-        );
+        if self.steps > 0 {
+            println!(
+                "steps of accepted calls {}, most in one {}",
+                self.steps, self.most_steps
+            );
+        }
         println!("seconds in the calls {:.2}", self.time.as_secs_f64());
         let mut short = self.counts.shortfalls();
         short.extend(self.accepted_families.shortfalls());

@@ -1,8 +1,9 @@
 #!/usr/bin/env python3
-"""Store lists, pairings and origin lists as text: writes, shows and draws the files of the formats.
+"""Store lists, raw lists, pairings and origin lists as text: writes, shows and draws the files of the formats.
 
     python3 tools/cells.py list < text > store.bin     a store list (kind 1) from text
-    python3 tools/cells.py show < file                 any file of kinds 1 to 5 as text
+    python3 tools/cells.py raw < text > rig.raw        a raw list (kind 6) from text
+    python3 tools/cells.py show < file                 any file of kinds 1 to 6 as text
     python3 tools/cells.py draw store.bin [pairing]    a store list as a drawing for Graphviz
 
 Text of a list: one pair on each line, written a-b:points, as 0-1:10. The cells may stand either way round and
@@ -11,8 +12,11 @@ line 'n N' may give the number of cells; without it that is the highest cell and
 follows a # do not count. A pair of a cell with itself, a pair given twice, cells above 1,023, points above
 1,048,575 and more than 4,096 pairs are refused: the format cannot hold them.
 
-'show' writes a store list so that 'list' reads it back. Of a damaged file it says what is wrong, with the
-number of the refusal that the calls give it where they read such files, and shows nothing.
+'raw' reads the same text as a rig's list: each line is a run, and the file has the runs in the order of the lines,
+with the cells as the line has them. There a pair may be given again, either way round; the rest is refused as above.
+
+'show' writes a store list so that 'list' reads it back, and a raw list so that 'raw' does. Of a damaged file it says
+what is wrong, with the number of the refusal that the calls give it where they read such files, and shows nothing.
 
 'draw' takes as the pairing what the program 'pairing' printed, a pairing file (kind 4) or an origin list (kind 5),
 and draws its pairs thick. Of an origin list the pairs from a step are dashed, with the step and its rule beside
@@ -29,15 +33,16 @@ MOST_CELLS = 1024
 MOST_ENTRIES = 4096
 LARGEST_POINTS = 1048575
 HEADER_BYTES = 4
-ENTRY_BYTES = {1: 5, 2: 8, 3: 2, 4: 3, 5: 5}
+ENTRY_BYTES = {1: 5, 2: 8, 3: 2, 4: 3, 5: 5, 6: 5}
 CARRIED_BYTES = 8
-STORE_LIST, SHORT_LIST, SLIP, PAIRING, ORIGIN_LIST = 1, 2, 3, 4, 5
+STORE_LIST, SHORT_LIST, SLIP, PAIRING, ORIGIN_LIST, RAW_LIST = 1, 2, 3, 4, 5, 6
 KIND_NAMES = {
     STORE_LIST: "store list",
     SHORT_LIST: "short list",
     SLIP: "slip",
     PAIRING: "pairing",
     ORIGIN_LIST: "origin list",
+    RAW_LIST: "raw list",
 }
 RULES = {1: "leaf", 2: "ring", 3: "chain"}
 # The step and rule of a pair that no step put in, and the words that tell the two origins apart in a drawing.
@@ -57,23 +62,38 @@ class Wrong(Exception):
     """Something in the input is wrong; its text is what the user is told."""
 
 
-# Text to a store list
+# Text to a store list or a raw list
 
 
 def parse_list(text):
-    """The number of cells and the entries (a, b, points), ascending, of a list in text."""
-    cells, entries, lines = None, [], {}
+    """The number of cells and the entries (a, b, points), the lower cell first, ascending, of a list in text."""
+    cells, runs, numbers = parse_lines(text)
+    entries = [(min(one, other), max(one, other), points) for one, other, points in runs]
+    lines = {}
+    for entry, number in zip(entries, numbers):
+        check_new(entry, number, lines)
+    return cells, sorted(entries)
+
+
+def parse_raw(text):
+    """The number of cells and the runs (one, other, points) of a list in text, in the order of its lines."""
+    cells, runs, _ = parse_lines(text)
+    return cells, runs
+
+
+def parse_lines(text):
+    """The number of cells, the runs (one, other, points) as the lines have them, and the lines' numbers."""
+    cells, runs, numbers = None, [], []
     for number, words in significant_lines(text):
         given = CELLS_LINE.fullmatch(words)
         if given:
-            cells = cells_given(int(given[1]), number, cells, entries)
+            cells = cells_given(int(given[1]), number, cells, runs)
         else:
-            entry = entry_of_line(words, number)
-            check_new(entry, number, lines)
-            entries.append(entry)
-    cells = highest_cell(entries) + 1 if cells is None else cells
-    check_fits(cells, entries, lines)
-    return cells, sorted(entries)
+            runs.append(run_of_line(words, number))
+            numbers.append(number)
+    cells = highest_cell(runs) + 1 if cells is None else cells
+    check_fits(cells, runs, numbers)
+    return cells, runs, numbers
 
 
 def significant_lines(text):
@@ -84,17 +104,17 @@ def significant_lines(text):
             yield number, words
 
 
-def cells_given(cells, line, before, entries):
+def cells_given(cells, line, before, runs):
     """The cells of a line 'n N', which stands once, before the pairs."""
-    if before is not None or entries:
+    if before is not None or runs:
         raise Wrong(f"line {line}: 'n' stands once, before the first pair")
     if cells > MOST_CELLS:
         raise Wrong(f"line {line}: {cells} cells, but a store has at most {MOST_CELLS}")
     return cells
 
 
-def entry_of_line(words, line):
-    """The entry of a line a-b:points, the lower cell first."""
+def run_of_line(words, line):
+    """The cells, as they stand, and the points of a line a-b:points."""
     match = PAIR_LINE.fullmatch(words)
     if not match:
         raise Wrong(f"line {line}: '{words}' is not of the form a-b:points")
@@ -105,7 +125,7 @@ def entry_of_line(words, line):
         raise Wrong(f"line {line}: cell {max(one, other)} is not below {MOST_CELLS}")
     if points > LARGEST_POINTS:
         raise Wrong(f"line {line}: {points} points are above {LARGEST_POINTS}")
-    return min(one, other), max(one, other), points
+    return one, other, points
 
 
 def check_new(entry, line, lines):
@@ -116,25 +136,35 @@ def check_new(entry, line, lines):
     lines[pair] = line
 
 
-def highest_cell(entries):
-    """The highest cell of the entries, -1 where there is none."""
-    return max((b for _, b, _ in entries), default=-1)
+def highest_cell(runs):
+    """The highest cell of the runs, -1 where there is none."""
+    return max((max(one, other) for one, other, _ in runs), default=-1)
 
 
-def check_fits(cells, entries, lines):
-    """Refuses cells not below the number given, and more entries than a store list has."""
-    for a, b, _ in entries:
-        if b >= cells:
-            raise Wrong(f"line {lines[a, b]}: cell {b} is not below n = {cells}")
-    if len(entries) > MOST_ENTRIES:
-        raise Wrong(f"line {list(lines.values())[MOST_ENTRIES]}: more than {MOST_ENTRIES} pairs")
+def check_fits(cells, runs, numbers):
+    """Refuses cells not below the number given, and more runs than a store list or raw list has entries."""
+    for number, (one, other, _) in zip(numbers, runs):
+        if max(one, other) >= cells:
+            raise Wrong(f"line {number}: cell {max(one, other)} is not below n = {cells}")
+    if len(runs) > MOST_ENTRIES:
+        raise Wrong(f"line {numbers[MOST_ENTRIES]}: more than {MOST_ENTRIES} pairs")
 
 
 def store_list(cells, entries):
     """The bytes of a store list."""
-    header = STORE_LIST << 28 | cells << 17 | len(entries) << 4
+    return list_file(STORE_LIST, cells, entries)
+
+
+def raw_list(cells, runs):
+    """The bytes of a raw list."""
+    return list_file(RAW_LIST, cells, runs)
+
+
+def list_file(kind, cells, entries):
+    """The bytes of a store list or a raw list: both have the same fields."""
+    header = kind << 28 | cells << 17 | len(entries) << 4
     parts = [header.to_bytes(HEADER_BYTES, "big")]
-    parts += [(a << 30 | b << 20 | points).to_bytes(ENTRY_BYTES[STORE_LIST], "big") for a, b, points in entries]
+    parts += [(a << 30 | b << 20 | points).to_bytes(ENTRY_BYTES[kind], "big") for a, b, points in entries]
     return b"".join(parts)
 
 
@@ -144,7 +174,7 @@ def store_list(cells, entries):
 def read_header(data):
     """Kind, cells, count and the zero bits of a file; missing bytes are wrong."""
     if len(data) < HEADER_BYTES:
-        raise Wrong(f"the file has {len(data)} bytes, but every file starts with {HEADER_BYTES} (refusals 2, 7, 9)")
+        raise Wrong(f"the file has {len(data)} bytes, but every file starts with {HEADER_BYTES} (refusals 2, 7, 9, 13)")
     header = int.from_bytes(data[:HEADER_BYTES], "big")
     return header >> 28, header >> 17 & 0x7FF, header >> 4 & 0x1FFF, header & 0xF
 
@@ -166,7 +196,7 @@ def read_file(data):
     """The kind, the cells, the carried points (short list only) and the entries of a file that is as it should be."""
     kind, cells, count, zero_bits = read_header(data)
     if kind not in KIND_NAMES:
-        raise Wrong(f"byte 0: kind {kind} is none of 1 to 5 (refusals 2, 7, 9)")
+        raise Wrong(f"byte 0: kind {kind} is none of 1 to 6 (refusals 2, 7, 9, 13)")
     check_header(kind, cells, count, zero_bits)
     check_length(data, kind, count)
     carried = int.from_bytes(data[HEADER_BYTES : first_byte(kind, 0)], "big") if kind == SHORT_LIST else None
@@ -178,18 +208,18 @@ def read_file(data):
 
 def refusal(kind, store_list_number):
     """The words that name the refusal of a file of this kind, with the store list's own number."""
-    number = {STORE_LIST: store_list_number, SLIP: 7, PAIRING: 9}.get(kind)
+    number = {STORE_LIST: store_list_number, SLIP: 7, PAIRING: 9, RAW_LIST: 13}.get(kind)
     return f" (refusal {number})" if number else ""
 
 
 def check_header(kind, cells, count, zero_bits):
-    """Refuses zero bits that are set, too many cells, and too many entries of a store list."""
+    """Refuses zero bits that are set, too many cells, and too many entries of a store list or raw list."""
     name = KIND_NAMES[kind]
     if zero_bits:
         raise Wrong(f"byte 3: a zero bit of the {name}'s header is set{refusal(kind, 2)}")
     if cells > MOST_CELLS:
         raise Wrong(f"byte 0: the {name} has n = {cells}, above {MOST_CELLS}{refusal(kind, 3)}")
-    if kind == STORE_LIST and count > MOST_ENTRIES:
+    if kind in (STORE_LIST, RAW_LIST) and count > MOST_ENTRIES:
         raise Wrong(f"byte 1: the {name} has m = {count}, above {MOST_ENTRIES}{refusal(kind, 3)}")
 
 
@@ -272,12 +302,28 @@ def check_origin_list(cells, numbers, entries):
     check_once(entries, ORIGIN_LIST)
 
 
+def check_raw_list(cells, numbers, entries):
+    """What refusal 13 says of the entries: either cell may come first, and a pair may stand again."""
+    for place, (one, other, _) in enumerate(entries):
+        where = f"byte {first_byte(RAW_LIST, place)}: the raw list's entry {one}-{other}"
+        if one == other:
+            raise Wrong(f"{where} has one cell twice (refusal 13)")
+        if max(one, other) >= cells:
+            raise Wrong(f"{where} has a cell not below n = {cells} (refusal 13)")
+
+
+def fields_of_list(number):
+    """The cells and the points of a store list's or raw list's entry."""
+    return number >> 30, number >> 20 & 0x3FF, number & 0xFFFFF
+
+
 FIELDS = {
-    STORE_LIST: lambda number: (number >> 30, number >> 20 & 0x3FF, number & 0xFFFFF),
+    STORE_LIST: fields_of_list,
     SHORT_LIST: lambda number: (number >> 54, number >> 44 & 0x3FF, number & (1 << 44) - 1),
     SLIP: lambda number: (number >> 10, number & 0x3FF),
     PAIRING: lambda number: (number >> 14, number >> 4 & 0x3FF),
     ORIGIN_LIST: lambda number: (number >> 30, number >> 20 & 0x3FF, number >> 9 & 0x7FF, number >> 6 & 0x7),
+    RAW_LIST: fields_of_list,
 }
 CHECKS = {
     STORE_LIST: check_store_list,
@@ -285,6 +331,7 @@ CHECKS = {
     SLIP: check_slip,
     PAIRING: check_pairing,
     ORIGIN_LIST: check_origin_list,
+    RAW_LIST: check_raw_list,
 }
 
 
@@ -431,13 +478,15 @@ def run(words, standard_input):
     """What the command with these words writes; standard_input is called where it reads that."""
     if words == ["list"]:
         return store_list(*parse_list(text_of(standard_input())))
+    if words == ["raw"]:
+        return raw_list(*parse_raw(text_of(standard_input())))
     if words == ["show"]:
         return show(standard_input()).encode()
     if words[:1] == ["draw"] and len(words) in (2, 3):
         return draw(*(bytes_of(name) for name in words[1:])).encode()
     if words in (["--help"], ["-h"]):
         return __doc__.encode()
-    raise Wrong("use: cells.py list, cells.py show, or cells.py draw LIST [PAIRING]; cells.py --help says more")
+    raise Wrong("use: cells.py list, raw or show, or cells.py draw LIST [PAIRING]; cells.py --help says more")
 
 
 def main():

@@ -26,6 +26,10 @@ FIRST_ORIGINS = bytes.fromhex("50080020 0000100240 0080300440")
 DIRECT_TEXT = "0-1:10\n0-3:25\n0-4:1\n1-2:1\n2-3:10\n3-5:1\n"
 DIRECT_PAIRING = bytes.fromhex("400C0020 000030 004020")
 DIRECT_ORIGINS = bytes.fromhex("500C0020 0000300000 00402002C0")
+# The first list as a rig may have run it: the ends turned, and 1-2 run twice more.
+RAW_TEXT = "2-1:7\n3-2:10\n1-2:9\n1-0:10\n2-1:1\n"
+RAW_RUNS = [(2, 1, 7), (3, 2, 10), (1, 2, 9), (1, 0, 10), (2, 1, 1)]
+RAW_LIST = bytes.fromhex("60080050 0080100007 00C020000A 0040200009 004000000A 0080100001")
 FIRST_PRINTED = "steps 2\ncarried 20\nshort 0\npair 0 1 10\npair 2 3 10\ntotal 20\n"
 
 
@@ -48,6 +52,18 @@ def command(words, given=b""):
 def sample(name):
     """The bytes of a sample."""
     return cells.bytes_of(os.path.join(SAMPLES, name))
+
+
+def sample_list(name):
+    """The cells and the entries that a sample's text gives; a rig's list is tidied."""
+    text = sample(name + ".txt").decode()
+    return tidied(*cells.parse_raw(text)) if name == "rig" else cells.parse_list(text)
+
+
+def tidied(n, runs):
+    """The cells and the entries of the store list of a rig's runs: of each pair the points of its last run."""
+    points = {frozenset(run[:2]): run[2] for run in runs}
+    return n, sorted((min(pair), max(pair), value) for pair, value in points.items())
 
 
 def heaviest(entries):
@@ -140,14 +156,55 @@ class TextToList(Refusing):
 
     def test_parts(self):
         self.assertEqual(list(cells.significant_lines("\n a # b\n#c\nd")), [(2, "a"), (4, "d")])
-        self.assertEqual(cells.entry_of_line("7-3:5", 1), (3, 7, 5))
+        self.assertEqual(cells.run_of_line("7-3:5", 1), (7, 3, 5))
+        self.assertEqual(cells.parse_lines("n 4\n\n1-0:5\n"), (4, [(1, 0, 5)], [3]))
         self.assertEqual(cells.highest_cell([]), -1)
         self.assertEqual(cells.highest_cell(FIRST_ENTRIES), 3)
+        self.assertEqual(cells.highest_cell([(7, 3, 5), (2, 4, 5)]), 7)
         self.assertEqual(cells.cells_given(5, 1, None, []), 5)
         lines = {}
         cells.check_new((0, 1, 5), 4, lines)
         self.assertEqual(lines, {(0, 1): 4})
-        cells.check_fits(4, FIRST_ENTRIES, {})
+        cells.check_fits(4, FIRST_ENTRIES, [1, 2, 3])
+
+
+class TextToRawList(Refusing):
+    def test_the_lines_order_stays(self):
+        self.assertEqual(cells.parse_raw(RAW_TEXT), (4, RAW_RUNS))
+        self.assertEqual(cells.raw_list(4, RAW_RUNS), RAW_LIST)
+
+    def test_either_cell_first(self):
+        self.assertEqual(cells.parse_raw("1-0:5"), (2, [(1, 0, 5)]))
+        self.assertEqual(cells.parse_raw("0-1:5"), (2, [(0, 1, 5)]))
+        self.assertEqual(cells.parse_raw("n 1024 # a full store\n\n1023-0:1"), (1024, [(1023, 0, 1)]))
+
+    def test_repeats(self):
+        again = "0-1:5\n1-0:6\n0-1:5\n0-1:0\n"
+        self.assertEqual(cells.parse_raw(again), (2, [(0, 1, 5), (1, 0, 6), (0, 1, 5), (0, 1, 0)]))
+        self.assertEqual(len(cells.parse_raw("0-1:1\n" * 4096)[1]), 4096)
+        self.wrong("line 4097: more than 4096 pairs", cells.parse_raw, "0-1:1\n" * 4097)
+
+    def test_empty(self):
+        self.assertEqual(cells.raw_list(*cells.parse_raw("")), header(6, 0, 0))
+        self.assertEqual(cells.raw_list(*cells.parse_raw("n 1024")), header(6, 1024, 0))
+
+    def test_a_list_in_order_differs_in_its_kind_only(self):
+        raw = cells.raw_list(*cells.parse_raw(FIRST_TEXT))
+        self.assertEqual(raw, bytes([FIRST_LIST[0] + 0x50]) + FIRST_LIST[1:])
+
+    def test_lines_that_are_refused(self):
+        for text, pattern in [
+            ("0-1:1\n0-1", "line 2: '0-1' is not of the form"),
+            ("0-1:1\n3-3:1", "line 2: cell 3 is paired with itself"),
+            ("1024-0:1", "line 1: cell 1024 is not below 1024"),
+            ("n 3\n0-1:1\n3-0:1\n4-0:1", "line 3: cell 3 is not below n = 3"),
+            ("n 3\n0-3:1", "line 2: cell 3 is not below n = 3"),
+            ("1-0:1048576", "line 1: 1048576 points are above 1048575"),
+            ("n 1025", "line 1: 1025 cells"),
+            ("1-0:1\nn 3", "line 2: 'n' stands once"),
+        ]:
+            with self.subTest(text):
+                self.wrong(pattern, cells.parse_raw, text)
 
 
 class FilesToText(Refusing):
@@ -172,19 +229,28 @@ class FilesToText(Refusing):
         self.assertEqual(cells.show(header(5, 0, 0)), "# origin list\nn 0\n")
         self.assertEqual([cells.origin_text(origin) for origin in ((0, 0), (1023, 2))], ["short", "step 1023 ring"])
 
+    def test_raw_list(self):
+        self.assertEqual(cells.show(RAW_LIST), "# raw list\nn 4\n" + RAW_TEXT)
+        self.assertEqual(cells.show(header(6, 0, 0)), "# raw list\nn 0\n")
+
     def test_largest_fields(self):
         short = header(2, 1024, 1) + b"\xff" * 8 + (1022 << 54 | 1023 << 44 | (1 << 44) - 1).to_bytes(8, "big")
         self.assertEqual(cells.read_file(short), (2, 1024, 2**64 - 1, [(1022, 1023, 2**44 - 1)]))
         origins = header(5, 1024, 1) + bytes.fromhex("FFBFFFFEC0")
         self.assertEqual(cells.read_file(origins), (5, 1024, None, [(1022, 1023, 2047, 3)]))
+        raw = header(6, 1024, 4096) + bytes.fromhex("FFFFEFFFFF") * 4096
+        self.assertEqual(cells.read_file(raw), (6, 1024, None, [(1023, 1022, 1048575)] * 4096))
 
     def test_parts(self):
         self.assertEqual(cells.read_header(FIRST_LIST), (1, 4, 3, 0))
-        self.assertEqual([cells.first_byte(kind, 2) for kind in (1, 2, 3, 4, 5)], [14, 28, 8, 10, 14])
+        self.assertEqual([cells.first_byte(kind, 2) for kind in (1, 2, 3, 4, 5, 6)], [14, 28, 8, 10, 14, 14])
         self.assertEqual(cells.records(FIRST_SLIP, cells.SLIP, 2), [0x0400, 0x0402])
         self.assertEqual(cells.refusal(cells.STORE_LIST, 5), " (refusal 5)")
         self.assertEqual(cells.refusal(cells.SHORT_LIST, 5), "")
         self.assertEqual(cells.refusal(cells.ORIGIN_LIST, 5), "")
+        self.assertEqual(cells.refusal(cells.RAW_LIST, 5), " (refusal 13)")
+        self.assertEqual(cells.fields_of_list(0x0080100007), (2, 1, 7))
+        self.assertEqual(cells.list_file(cells.RAW_LIST, 4, RAW_RUNS), RAW_LIST)
 
     def test_round_trips(self):
         rng = random.Random(1)
@@ -195,6 +261,17 @@ class FilesToText(Refusing):
             data = cells.store_list(n, entries)
             self.assertEqual(cells.parse_list(cells.show(data)), (n, entries))
             self.assertEqual(cells.store_list(*cells.parse_list(cells.show(data))), data)
+
+    def test_round_trips_of_raw_lists(self):
+        rng = random.Random(3)
+        for _ in range(200):
+            n = rng.randint(2, 1024)
+            pairs = [rng.sample(range(n), 2) for _ in range(rng.randint(1, 20))]
+            drawn = [rng.choice(pairs) for _ in range(rng.randint(0, 60))]
+            runs = [(*rng.sample(pair, 2), rng.randint(0, 1048575)) for pair in drawn]
+            data = cells.raw_list(n, runs)
+            self.assertEqual(cells.parse_raw(cells.show(data)), (n, runs))
+            self.assertEqual(cells.raw_list(*cells.parse_raw(cells.show(data))), data)
 
 
 class DamagedFiles(Refusing):
@@ -208,8 +285,8 @@ class DamagedFiles(Refusing):
         self.shown_wrong(
             (b"", "0 bytes"),
             (b"\x10\x08\x00", "3 bytes"),
-            (header(0, 4, 0), "byte 0: kind 0 is none of 1 to 5"),
-            (header(6, 4, 0), "kind 6"),
+            (header(0, 4, 0), "byte 0: kind 0 is none of 1 to 6"),
+            (header(7, 4, 0), "kind 7"),
         )
 
     def test_store_lists(self):
@@ -274,10 +351,24 @@ class DamagedFiles(Refusing):
             (header(5, 4, 2) + one + from_step(1, 2, 1, 1), "cell 1 stands twice in the origin list$"),
         )
 
+    def test_raw_lists(self):
+        one, twice, high = RAW_LIST[4:9], bytes.fromhex("0080200001"), bytes.fromhex("0100000001")
+        self.shown_wrong(
+            (header(6, 4, 0, 1), r"byte 3: a zero bit of the raw list's header is set \(refusal 13\)$"),
+            (header(6, 1025, 0), r"n = 1025, above 1024 \(refusal 13\)$"),
+            (header(6, 4, 4097) + one * 4097, r"m = 4097, above 4096 \(refusal 13\)$"),
+            (RAW_LIST[:-1], r"28 bytes, but m = 5 makes 29 \(refusal 13\)$"),
+            (RAW_LIST + b"\0", r"30 bytes.*\(refusal 13\)$"),
+            (header(6, 4, 2) + one + twice, r"byte 9: the raw list's entry 2-2 has one cell twice \(refusal 13\)$"),
+            (header(6, 4, 2) + one + high, r"byte 9: .* 4-0 has a cell not below n = 4 \(refusal 13\)$"),
+            (header(6, 2, 1) + one, r"byte 4: .* 2-1 has a cell not below n = 2 \(refusal 13\)$"),
+        )
+
     def test_any_bytes_are_shown_or_refused(self):
         rng = random.Random(2)
+        files = [FIRST_LIST, FIRST_SHORT, FIRST_SLIP, FIRST_PAIRING, FIRST_ORIGINS, RAW_LIST]
         for _ in range(2000):
-            data = bytearray(rng.choice([FIRST_LIST, FIRST_SHORT, FIRST_SLIP, FIRST_PAIRING, FIRST_ORIGINS]))
+            data = bytearray(rng.choice(files))
             for _ in range(rng.randint(0, 3)):
                 data[rng.randrange(len(data))] ^= 1 << rng.randrange(8)
             try:
@@ -335,6 +426,7 @@ class Drawing(Refusing):
     def test_not_a_store_list(self):
         self.wrong("is a slip, not a store list", cells.draw, FIRST_SLIP)
         self.wrong("is an origin list, not a store list", cells.draw, FIRST_ORIGINS)
+        self.wrong(r"is a raw list, not a store list \(refusal 2\)", cells.draw, RAW_LIST)
         self.wrong("refusal 4", cells.draw, FIRST_LIST[:-1])
 
     def test_pairings_that_are_refused(self):
@@ -369,6 +461,10 @@ class TheCommand(Refusing):
         self.assertEqual(command(["list"], b"\xef\xbb\xbf" + FIRST_TEXT.encode())[:2], (0, FIRST_LIST))
         self.assertEqual(command(["show"], FIRST_LIST)[:2], (0, cells.show(FIRST_LIST).encode()))
 
+    def test_raw_and_show(self):
+        self.assertEqual(command(["raw"], RAW_TEXT.encode()), (0, RAW_LIST, ""))
+        self.assertEqual(command(["show"], RAW_LIST)[:2], (0, cells.show(RAW_LIST).encode()))
+
     def test_draw(self):
         with tempfile.TemporaryDirectory() as folder:
             list_name, printed_name = os.path.join(folder, "first.bin"), os.path.join(folder, "printed.txt")
@@ -384,7 +480,9 @@ class TheCommand(Refusing):
         for words, given, pattern in [
             (["list"], b"0-1:1\n0-0:1\n", "^cells.py: line 2: "),
             (["list"], b"\xff", "^cells.py: byte 0: "),
+            (["raw"], b"0-1:1\n1-1:1\n", "^cells.py: line 2: "),
             (["show"], FIRST_LIST[:-1], "refusal 4"),
+            (["show"], RAW_LIST[:-1], "refusal 13"),
             (["draw", os.path.join(HERE, "none.bin")], b"", "No such file"),
         ]:
             with self.subTest(words):
@@ -395,7 +493,7 @@ class TheCommand(Refusing):
 
     def test_words(self):
         self.assertIn(b"either way round", cells.run(["--help"], None))
-        for words in ([], ["lists"], ["draw"], ["draw", "a", "b", "c"], ["show", "a"]):
+        for words in ([], ["lists"], ["draw"], ["draw", "a", "b", "c"], ["show", "a"], ["raw", "a"]):
             self.wrong("^use: ", cells.run, words, None)
 
 
@@ -412,7 +510,7 @@ class Samples(Refusing):
     def test_text_and_binary_agree(self):
         for name in self.rows():
             with self.subTest(name):
-                entries = cells.parse_list(sample(name + ".txt").decode())
+                entries = sample_list(name)
                 if name == "damaged":
                     self.assertTrue(cells.store_list(*entries).startswith(sample(name + ".bin")))
                     self.wrong("refusal 4", cells.show, sample(name + ".bin"))
@@ -425,12 +523,12 @@ class Samples(Refusing):
 
     def test_cells_and_pairs_in_the_table(self):
         for name, row in self.rows().items():
-            n, entries = cells.parse_list(sample(name + ".txt").decode())
+            n, entries = sample_list(name)
             self.assertEqual(row[:2], [str(n), str(len(entries))], name)
 
     def test_totals_in_the_table(self):
-        for name in ("first", "triangle", "ring-of-four", "workshop"):
-            _, entries = cells.parse_list(sample(name + ".txt").decode())
+        for name in ("first", "triangle", "ring-of-four", "workshop", "rig"):
+            _, entries = sample_list(name)
             self.assertEqual(self.rows()[name][5], str(heaviest(entries)), name)
 
     def test_origin_lists(self):
@@ -438,7 +536,7 @@ class Samples(Refusing):
         self.assertEqual(cells.show(sample("first.origins")), "# origin list\nn 4\n0-1 step 1 leaf\n2-3 step 2 leaf\n")
         self.assertEqual(cells.show(sample("triangle.origins")), "# origin list\nn 3\n0-1 step 1 ring\n")
         for name in ("first", "triangle", "workshop"):
-            _, entries = cells.parse_list(sample(name + ".txt").decode())
+            _, entries = sample_list(name)
             points = {(a, b): value for a, b, value in entries}
             _, _, _, pairs = cells.read_file(sample(name + ".origins"))
             self.assertEqual(self.rows()[name][5], str(sum(points[a, b] for a, b, *_ in pairs)), name)
@@ -448,10 +546,24 @@ class Samples(Refusing):
         _, _, _, pairs = cells.read_file(sample("workshop.origins"))
         self.assertEqual([(a, b) for a, b, step, rule in pairs if (step, rule) == (0, 0)], [(4, 11), (17, 23)])
 
+    def test_the_rigs_list(self):
+        """Its text and its raw list agree; the last points stand, neither the first nor the most."""
+        runs = cells.parse_raw(sample("rig.txt").decode())
+        self.assertEqual(cells.raw_list(*runs), sample("rig.raw"))
+        self.assertEqual(cells.parse_raw(cells.show(sample("rig.raw"))), runs)
+        self.assertEqual([run[2] for run in runs[1] if set(run[:2]) == {0, 1}], [580, 620, 600])
+        self.assertEqual(cells.read_file(sample("rig.bin"))[3][0], (0, 1, 600))
+        self.wrong("line 10: the pair 0-1 is given in line 8 already", cells.parse_list, sample("rig.txt").decode())
+
+    def test_what_is_printed_for_the_rigs_list(self):
+        printed = "\n".join(re.findall(r"^ {6}(\w.*)$", sample("README.md").decode(), re.MULTILINE))
+        self.assertEqual(cells.draw(sample("rig.bin"), printed.encode()).count("bold"), 4)
+        self.assertEqual(cells.parse_printed(printed)[1], 2750)
+
     def test_every_list_is_drawn(self):
         for name in self.rows():
             if name != "damaged":
-                _, entries = cells.parse_list(sample(name + ".txt").decode())
+                _, entries = sample_list(name)
                 self.assertEqual(cells.draw(sample(name + ".bin")).count(" -- "), len(entries))
 
 

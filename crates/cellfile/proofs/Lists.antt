@@ -8,15 +8,15 @@ use native.Mathlib.Omega.{arith}
 use native.Mathlib.Nat.{div-one, one-mul, mod-eq-of-lt, mul-le-mul-right, mul-le-mul}
 use lib.ListN.{length, getD, drop, List·getD-map}
 use lib.Pow.{shr-shr, pow-lt}
-use mathlib.Core.Bool.{Bool, true, false, _||_}
+use mathlib.Core.Bool.{Bool, true, false, cond, _||_}
 use lib.Dec.{eqb}
 use borrow.Author.Tests.{eqb-true}
 use Rattle.matching.specs.Lists.{All, mem}
 use Rattle.matching.specs.Listed.{Entry as ListEntry}
 use Rattle.cellfile.specs.Bytes.{number}
 use Rattle.cellfile.specs.Fields.{fields, readRecord, readRecords, size}
-use Rattle.cellfile.specs.Files.{slip, pairing, start, fileLength, kindOf, cellsOf, countOf, readEntries}
-use Rattle.cellfile.specs.Files.{asEntry, listLayout, entriesAll, inView}
+use Rattle.cellfile.specs.Files.{Layout, storeList, rawList, slip, pairing, start, fileLength, kindOf, cellsOf}
+use Rattle.cellfile.specs.Files.{countOf, readEntries, asEntry, listLayout, entriesAll, inView}
 use Rattle.cellfile.specs.Fits.{WholeBytes}
 use Rattle.cellfile.specs.Reads.{entryFields, EntryAt, EntryRead, EntryThere, ShapeRead, pointsTop}
 use Rattle.cellfile.specs.declared.decode.Entry.{Entry}
@@ -55,12 +55,21 @@ pair-fields s {v} e = rw (← e, div-one v)
 
 -- ---- lists
 
-pub shape-is : (s : List ℕ) → ShapeRead s (record { start = 4; bytes = 5 })
+-- a list of any kind has nothing between its header and its entries, and the same fields in an entry
+layout-is : (s : List ℕ) → (listLayout s .extra ≡ storeList .extra) × (listLayout s .entry ≡ storeList .entry)
 unfolding listLayout
+layout-is s = go (eqb (kindOf s) (rawList .kind))
+  where
+    go : (t : Bool) → (cond t rawList storeList .extra ≡ storeList .extra)
+        × (cond t rawList storeList .entry ≡ storeList .entry)
+    go true = (refl, refl)
+    go false = (refl, refl)
+
+pub shape-is : (s : List ℕ) → ShapeRead s (record { start = 4; bytes = 5 })
 shape-is s = record {
-  start = refl;
-  bytes = refl;
-  fields = refl;
+  start = rw (layout-is s .0);
+  bytes = rw (layout-is s .1);
+  fields = layout-is s .1;
   start-fits = omega arith;
   least = omega arith;
   most = omega arith;
@@ -78,21 +87,35 @@ module _ (s : List ℕ) (r : Shape) (m : ℕ) (h : ShapeRead s r) where
 
 -- its records are of whole bytes, and it is of its layout's kind
 pub list-whole : (s : List ℕ) → WholeBytes (listLayout s .extra (cellsOf s)) × WholeBytes (listLayout s .entry)
-unfolding listLayout
-list-whole s = (refl, refl)
+list-whole s = rw (layout-is s .0, layout-is s .1) (refl, refl)
 
-pub list-kind : (s : List ℕ) → mem (kindOf s) (1 ∷ []) ≡ true → kindOf s ≡ listLayout s .kind
+pub layout-store : (s : List ℕ) → kindOf s ≡ storeList .kind → listLayout s ≡ storeList
 unfolding listLayout
-list-kind s e = sym (eqb-true 1 (kindOf s) (or-last (eqb 1 (kindOf s)) e))
+layout-store s k = rw k
+
+pub layout-raw : (s : List ℕ) → kindOf s ≡ rawList .kind → listLayout s ≡ rawList
+unfolding listLayout
+layout-raw s k = rw k
+
+pub store-kind : (s : List ℕ) → mem (kindOf s) (1 ∷ []) ≡ true → kindOf s ≡ storeList .kind
+store-kind s e = sym (eqb-true 1 (kindOf s) (or-last (eqb 1 (kindOf s)) e))
   where
     or-last : (t : Bool) → (t || false) ≡ true → t ≡ true
     or-last true h = refl
     or-last false h = h
 
+pub list-kind : (s : List ℕ) → mem (kindOf s) (1 ∷ []) ≡ true → kindOf s ≡ listLayout s .kind
+list-kind s e = let k = store-kind s e in k ∙ ap (λ (l : Layout). l .kind) (sym (layout-store s k))
+
+-- all its entries
+pub entries-are : (s : List ℕ) → entriesAll s ≡ map asEntry (readRecords (storeList .entry) (countOf s) (drop 4 s))
+unfolding entriesAll
+entries-are s = rw (layout-is s .0, layout-is s .1)
+
 -- the points of an entry
 points-fit : (s t : List ℕ) → getD (readRecord (listLayout s .entry) t) 2 0 < 1048576
-unfolding listLayout fields
-points-fit s t = omega arith
+unfolding fields
+points-fit s t = rw (layout-is s .1) (omega arith)
 
 -- an entry is in the list
 pub entry-place : (s : List ℕ) (shape : Shape) (i : ℕ) → EntryThere s shape i

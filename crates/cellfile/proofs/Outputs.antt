@@ -1,7 +1,8 @@
 -- Laws of files written into an output. In order: a number written from its last byte on; one part written after
--- another, `onto-next`; the words of a file, and the files that words make.
+-- another, `onto-next`; the words of a file; the files that words make, their length (`words-length`), and what they
+-- stand for (`records-file`).
 use Prim.Native.Nat.{ℕ, zero, suc, _+_, _*_, _-_, _/_, _%_, _<_, _≤_}
-use mathlib.Core.Path.{_≡_, refl, sym, ap, _∙_}
+use mathlib.Core.Path.{_≡_, refl, sym, ap, ap₂, _∙_}
 use mathlib.Core.List.{List, [], _∷_, _++_, map, append-nil, append-assoc}
 use native.Mathlib.Omega.{arith}
 use native.Mathlib.Nat.{mul-suc, mul-le-mul-left}
@@ -12,15 +13,17 @@ use lib.Seq.{length-take-le}
 use borrow.Rule.Slice.PartMut.{putMid, postOf, post-is}
 use Rattle.cellfile.specs.Bytes.{bytes}
 use Rattle.cellfile.specs.Fields.{size, packed, fields, writeRecords}
+use Rattle.matching.specs.Lists.{All}
 use Rattle.matching.specs.Listed.{Entry}
 use Rattle.buffers.specs.Map.{unit, atCells}
-use Rattle.cellfile.specs.Files.{Layout, header, shortList, slip, pairing, originList, fileLength}
+use Rattle.cellfile.specs.Files.{Layout, header, storeList, shortList, slip, pairing, originList, fileLength}
 use Rattle.cellfile.specs.Files.{writeFile, onto, asFields}
-use Rattle.cellfile.specs.Fits.{WholeBytes}
-use Rattle.cellfile.specs.Words.{wordBytes, fileOf, shortWord, noEntry, Plain, Writable, RowsOf}
+use Rattle.cellfile.specs.Fits.{WholeBytes, FitsFields}
+use Rattle.cellfile.specs.Words.{wordBytes, fileOf, wordsFile, shortWord, noEntry, Plain, Writable, RowsOf}
 use Rattle.cellfile.specs.Words.{pointsRoom}
 use Rattle.cellfile.proofs.Bytes.{length-bytes}
-use Rattle.cellfile.proofs.Fields.{write-fields}
+use Rattle.cellfile.proofs.Fields.{write-fields, fields-packed}
+use Rattle.cellfile.proofs.RoundTrip.{length-file}
 
 -- ---- a number, from its last byte on
 
@@ -167,13 +170,38 @@ plain-file {l} p n m words h =
 pub plain-length : {l : Layout} {kind k : ℕ} → Plain l kind k → (n m : ℕ) → fileLength l n m ≡ 4 + k * m
 plain-length p n m = rw (p .bytes-are, p .bare n)
 
+-- the length of a file of words
+pub words-length : {l : Layout} {kind k : ℕ} → Plain l kind k → (n r : ℕ) (ws : List ℕ) → r ≤ length ws
+    → 4 + k * r ≡ length (wordsFile l n r ws)
+words-length {l} p n r ws h =
+    let all = take r ws in
+    let count : length (map (fields (l .entry)) all) ≡ r =
+    length-map all (fields (l .entry)) ∙ length-take-le r ws h in
+    sym (length-file l (fileOf l n [] all) ∙ ap (fileLength l n) count ∙ plain-length p n r)
+
+-- the file of what the words stand for
+pub records-file : {A : Type 0} (l : Layout) (n r : ℕ) (ws : List ℕ) (g : A → List ℕ) (xs : List A)
+    → take r ws ≡ map (λ (x : A). packed (l .entry) (g x)) xs → All (λ (x : A). FitsFields (l .entry) (g x)) xs
+    → wordsFile l n r ws ≡ writeFile l (record { cells = n; extra = []; entries = map g xs })
+records-file {A} l n r ws g xs e h =
+    ap (λ vs. writeFile l (fileOf l n [] vs)) e
+    ∙ ap (λ rs. writeFile l (record { cells = n; extra = []; entries = rs })) (again xs h)
+  where
+    again : (xs : List A) → All (λ (x : A). FitsFields (l .entry) (g x)) xs
+        → map (fields (l .entry)) (map (λ (x : A). packed (l .entry) (g x)) xs) ≡ map g xs
+    again [] h = refl
+    again (x ∷ xs) h = ap₂ (λ v vs. v ∷ vs) (fields-packed (l .entry) (g x) (h .0)) (again xs (h .1))
+
 -- behind the header there is room for the entries
 pub plain-room : {l : Layout} {kind k : ℕ} → Plain l kind k → {n m : ℕ} {words out : List ℕ} (out′ : List ℕ)
     → Writable l n m words out → length out′ ≡ length out → k * m ≤ length (take (length out′ - 4) (drop 4 out′))
 plain-room {k = k} p {n} {m} out′ w same =
     part-room out′ 4 (k * m) (omega (arith, plain-length p n m, w .room, same))
 
--- the layouts of slips, pairings and origin lists
+-- the layouts of store lists, slips, pairings and origin lists
+pub plain-store : Plain storeList 1 5
+plain-store = record { kind-is = refl; bytes-are = refl; whole = refl; bare = λ n. refl }
+
 pub plain-slip : Plain slip 3 2
 plain-slip = record { kind-is = refl; bytes-are = refl; whole = refl; bare = λ n. refl }
 

@@ -53,6 +53,10 @@ pairing = record { kind = 4; extra = λ n. []; entry = 10 ∷ 10 ∷ 4 ∷ [] }
 abbrev pub originList : Layout
 originList = record { kind = 5; extra = λ n. []; entry = 10 ∷ 10 ∷ 11 ∷ 3 ∷ 6 ∷ [] }
 
+-- Raw list: 'the store list's header and entry fields'.
+abbrev pub rawList : Layout
+rawList = record { kind = 6; extra = storeList .extra; entry = storeList .entry }
+
 -- Where the entries of a file of n cells start, and how long the file with m entries is.
 abbrev pub start : Layout → ℕ → ℕ
 start l n = 4 + size (l .extra n)
@@ -96,9 +100,9 @@ asPair r = (getD r 0 0, getD r 1 0)
 abbrev pub entriesOf : Layout → List ℕ → List Entry
 entriesOf l s = map asEntry (readEntries l s)
 
--- The layout of a list, by its bytes. Laws of it: proofs/Lists.
+-- The layout of a list, by its kind; one of a kind that no list has is read as a store list. Laws of it: proofs/Lists.
 unfoldable pub listLayout : List ℕ → Layout
-listLayout s = storeList
+listLayout s = cond (eqb (kindOf s) (rawList .kind)) rawList storeList
 
 -- All entries of a list; and those in view, which pairings are drawn from.
 unfoldable pub entriesAll : List ℕ → List Entry
@@ -123,6 +127,13 @@ asFields e = e .0 ∷ e .1 ∷ e .2 ∷ []
 
 abbrev pub pairFields : Pair → List ℕ
 pairFields e = e .0 ∷ e .1 ∷ 0 ∷ []
+
+-- The store list, and the raw list, of n cells with these entries.
+abbrev pub listFile : ℕ → List Entry → List ℕ
+listFile n es = writeFile storeList (record { cells = n; extra = []; entries = map asFields es })
+
+abbrev pub rawFile : ℕ → List Entry → List ℕ
+rawFile n es = writeFile rawList (record { cells = n; extra = []; entries = map asFields es })
 
 -- (a, b) as one number: both cells have 10 bits.
 abbrev pub key : ℕ → ℕ → ℕ

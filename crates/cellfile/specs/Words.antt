@@ -2,14 +2,14 @@
 use Prim.Native.Nat.{ℕ, _+_, _*_, _%_, _^_, _<_, _≤_}
 use mathlib.Core.Path.{_≡_}
 use mathlib.Core.List.{List, [], _∷_, _++_, map}
-use lib.ListN.{length, getD}
+use lib.ListN.{length, getD, take}
 use Rattle.buffers.specs.Map.{unit, atCells}
 use Rattle.matching.specs.Pairs.{Pair}
 use Rattle.matching.specs.Listed.{Entry}
 use Rattle.cellfile.specs.Bytes.{bytes}
 use Rattle.cellfile.specs.Fields.{size, fields, packed}
 use Rattle.cellfile.specs.Fits.{WholeBytes}
-use Rattle.cellfile.specs.Files.{Layout, File, fileLength, pairing, asFields}
+use Rattle.cellfile.specs.Files.{Layout, File, fileLength, writeFile, storeList, pairing, asFields}
 use Rattle.cellfile.specs.Files.{nameFields, pairFields, originFields, shortList, slip, originList}
 use Rattle.matching.specs.Steps.{Step}
 use Rattle.matching.specs.Origin.{Origins}
@@ -22,6 +22,10 @@ wordBytes k (w ∷ ws) = bytes k w ++ wordBytes k ws
 -- The file whose entries are words, each the number of a record.
 abbrev pub fileOf : Layout → ℕ → List ℕ → List ℕ → File
 fileOf l n extra words = record { cells = n; extra = extra; entries = map (fields (l .entry)) words }
+
+-- The file whose records are the first r words.
+abbrev pub wordsFile : Layout → ℕ → ℕ → List ℕ → List ℕ
+wordsFile l n r ws = writeFile l (fileOf l n [] (take r ws))
 
 -- A layout of that kind with records of so many whole bytes and nothing between the header and the records.
 pub record Plain (l : Layout) (kind bytes : ℕ) : Type 0 where
@@ -37,7 +41,11 @@ pub record Writable (l : Layout) (n m : ℕ) (ws out : List ℕ) : Type 0 where
   pub words : m ≤ length ws
   pub room : fileLength l n m ≤ length out
 
--- An entry of a short list, a pair of a pairing or of an origin list, and a step of a slip as words.
+-- An entry of a store list and of a short list, a pair of a pairing and of an origin list, and a step of a slip as
+-- words.
+abbrev pub storeWord : Entry → ℕ
+storeWord e = packed (storeList .entry) (asFields e)
+
 abbrev pub shortWord : Entry → ℕ
 shortWord e = packed (shortList .entry) (asFields e)
 

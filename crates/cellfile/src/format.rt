@@ -11,6 +11,8 @@ pub const PAIRING: u64 = 4;
 
 pub const ORIGIN_LIST: u64 = 5;
 
+pub const RAW_LIST: u64 = 6;
+
 // The rules by their numbers, in a slip and in an origin list.
 pub const LEAF: u64 = 1;
 
@@ -18,7 +20,8 @@ pub const RING: u64 = 2;
 
 pub const CHAIN: u64 = 3;
 
-// The bytes of the header, and of a record of a store list, a short list, a slip, a pairing and an origin list.
+// The bytes of the header, and of a record of a store list (and of a raw one), a short list, a slip, a pairing and an
+// origin list.
 pub const HEADER_BYTES: usize = 4;
 
 pub const ENTRY_BYTES: usize = 5;

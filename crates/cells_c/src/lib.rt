@@ -13,6 +13,7 @@ ghost use Rattle.reduction.specs.Calls.{replaying, reducing, replayShort, slipF
 ghost use Rattle.starting.specs.Steps.{reduceSteps};
 ghost use Rattle.lifting.specs.Calls.{solving, solveFile, lifting, liftFile, liftOrigins};
 ghost use Rattle.lifting.specs.Calls.{pairing as pairingAnswer, pairingFile, pairingOrigins};
+ghost use Rattle.tidying.specs.Calls.{tidying, tidyFile};
 ghost use Rattle.view.specs.Serving.{serving};
 ghost use Rattle.checks.specs.Calls.{answered};
 ghost use Rattle.cells_c.specs.Numbers.{valueOr};
@@ -238,6 +239,29 @@ pub extern "C" fn cells_pair(
 {
     let r = lifting::pair(list, work_a, work_b, pairing, origins);
     two_lengths(r, pairing_len, origins_len)
+}
+
+#[no_mangle]
+pub extern "C" fn cells_tidy(
+    raw: &[u8],
+    work_a: &mut [u64],
+    work_b: &mut [u64],
+    store: &mut [u8],
+    store_len: &mut u64,
+) -> u32
+    ensures answer { λ r. ⌜ r ≡ tidying (now (raw .entry))
+        (lent (now («work_a» .entry)) (now («work_b» .entry))) (length (now (store .entry))) .0 ⌝ }
+    ensures values { λ _. ⌜ now («store_len» .exit) ≡ valueOr 0 (now («store_len» .entry))
+        (tidying (now (raw .entry))
+        (lent (now («work_a» .entry)) (now («work_b» .entry))) (length (now (store .entry)))) ⌝ }
+    ensures output { λ _. ⌜ now (store .exit) ≡ written (tidying (now (raw .entry))
+        (lent (now («work_a» .entry)) (now («work_b» .entry))) (length (now (store .entry))) .0)
+        (tidyFile (now (raw .entry))) (now (store .entry)) ⌝ }
+    ensures cleared { λ _. ⌜ Cleared (now («work_a» .entry)) (now («work_a» .exit))
+        × Cleared (now («work_b» .entry)) (now («work_b» .exit)) ⌝ }
+{
+    let r = tidying::tidy(raw, work_a, work_b, store);
+    one_length(r, store_len)
 }
 
 #[no_mangle]

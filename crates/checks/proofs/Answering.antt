@@ -1,6 +1,7 @@
 -- The layers that the calls with outputs share. In order: the work buffers (`enough-words`); an output that is kept is
 -- right where the call is refused; what some rows refuse, and what they pass on to the rows after them (`refused`,
--- `passed`); refusal 12 (`no-room`, `all-room`). Assumes nothing.
+-- `passed`); refusal 12 (`no-room`, `all-room`; of one file `one-refused`, `one-written`); the whole call (`framed`).
+-- Assumes nothing.
 use mathlib.Core.Path.{_≡_, refl, sym, ap, _∙_}
 use mathlib.Core.Bool.{Bool, true, false, _||_}
 use mathlib.Core.List.{List, [], _∷_, _++_, append-assoc}
@@ -17,7 +18,7 @@ use Rattle.cellfile.specs.Answers.{Answer, answer, written}
 use Rattle.buffers.specs.Buffers.{lent}
 use Rattle.checks.proofs.Rows.{or-none}
 use Rattle.checks.proofs.Layers.{layer-refused, layer-passed}
-use Rattle.checks.specs.Calls.{callRows, roomRow, answering}
+use Rattle.checks.specs.Calls.{callRows, roomRow, filing, answering}
 use Rattle.checks.specs.Answering.{Output, lengths, rooms, Does, Enough}
 
 -- ---- the work buffers
@@ -95,15 +96,27 @@ pub all-room : (outs : List Output) → All (λ (o : Output). length (o .0) ≤ 
     → Does [] outs (0, lengths outs)
 all-room outs l h = record { says = rw (none-short outs l); writes = h }
 
+-- one file, by its size
+module _ (file out : List ℕ) {size : ℕ} (long : size ≡ length file) where
+  pub one-refused : length out < size → Does [] ((file, out, out) ∷ []) (12, [])
+  one-refused l = no-room [] (file, out, out) [] (omega arith) (refl, tt)
+
+  pub one-written : {out′ : List ℕ} → size ≤ length out → out′ ≡ onto file out
+      → Does [] ((file, out, out′) ∷ []) (0, size ∷ [])
+  one-written {out′} l e = rw long (all-room ((file, out, out′) ∷ []) (omega arith, tt) (e, tt))
+
 -- ---- the whole call
 
--- with refusal 1 found by the lengths of the work buffers lent
+-- with refusal 1 found by the lengths of the work buffers lent, whichever rows follow it
+pub framed-rows : (lent : List ℕ) (rows : Bool → List Row) {few : Bool} {outs : List Output} {a : Answer}
+    → few ≡ fewWords lent → Does (rows few) outs a
+    → (a ≡ filing (rows (fewWords lent)) (rooms outs))
+    × All (λ (o : Output). o .2 ≡ written (a .0) (o .0) (o .1)) outs
+framed-rows lent rows {few} {outs} e d = (d .says ∙ ap (λ t. filing (rows t) (rooms outs)) e, d .writes)
+
+-- a call on a list
 pub framed : (lent list : List ℕ) (own : List Row) {few : Bool} {outs : List Output} {a : Answer} → few ≡ fewWords lent
     → Does (callRows few list ++ own) outs a
     → (a ≡ answering lent list own (rooms outs))
     × All (λ (o : Output). o .2 ≡ written (a .0) (o .0) (o .1)) outs
-framed lent list own {few} {outs} {a} e d = (
-  d .says ∙ ap (λ t. answer (first ((callRows t list ++ own) ++ roomRow (rooms outs) ∷ [])) (lengths outs)) e,
-  d
-      .writes,
-)
+framed lent list own e d = framed-rows lent (λ few. callRows few list ++ own) e d

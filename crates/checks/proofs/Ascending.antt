@@ -7,7 +7,7 @@ use mathlib.Core.Bool.{true}
 use mathlib.Core.List.{List, [], _∷_, map}
 use Prim.Native.Nat.{ℕ, suc, _≤_, _<_}
 use native.Mathlib.Omega.{arith}
-use Rattle.matching.specs.Lists.{All}
+use Rattle.matching.specs.Lists.{All, Ascends}
 use Rattle.matching.specs.Pairs.{Pair, same}
 use Rattle.matching.specs.Listed.{Entry, joined, listed}
 use Rattle.matching.proofs.Tests.{Test, test, leT, andT, mapT, holds, fails}
@@ -50,6 +50,16 @@ ascending-all f P low [] g s = tt
 ascending-all f P low (x ∷ xs) g s =
     let t = ascending-cons low (f x) (map f xs) s in
     (g x (t .0), ascending-all f P (suc (f x)) xs (λ y h. g y (omega arith)) (t .1))
+
+-- What ascends stands in the order of its numbers.
+pub ascending-ascends : {A : Type 0} (f : A → ℕ) (low : ℕ) (xs : List A) → ascendingFrom low (map f xs) ≡ true
+    → Ascends (λ (x y : A). f x < f y) xs
+ascending-ascends f low [] s = tt
+ascending-ascends f low (x ∷ xs) s =
+    let t = ascending-cons low (f x) (map f xs) s in (
+      ascending-all f (λ y. f x < f y) (suc (f x)) xs (λ y h. omega arith) (t .1),
+      ascending-ascends f (suc (f x)) xs (t .1),
+    )
 
 -- After an entry whose key is not below the pair's all entries are above the pair; after a pair whose key is not below
 -- the entry's all pairs are above the entry.

@@ -1,8 +1,8 @@
 -- A call checks its inputs one after the other, each by a function that answers the first of that input's rows. These
 -- laws put the answers together: what is refused by some rows is refused by them and any rows after them, and where
--- they refuse nothing the rows after them decide. At the end: the answer to a whole call's rows is 0 and the values
--- just where none of them holds (`call-passes`, `call-sound`), and a refusal's number just where its row is the first
--- that holds (`call-refused`).
+-- they refuse nothing the rows after them decide. At the end: the answer to a call's rows is 0 and the values just
+-- where none of them holds (`rows-pass`, `rows-sound`), and a refusal's number just where its row is the first that
+-- holds (`row-refused`); the same of a call on a list (`call-passes`, `call-sound`, `call-refused`).
 use Prim.Native.Nat.{ℕ, zero, suc, _<_}
 use mathlib.Core.Path.{_≡_, refl, sym, ap, _∙_}
 use mathlib.Core.Logic.{_≢_, _↔_}
@@ -57,22 +57,35 @@ first-passed [] more h = refl
 first-passed (r ∷ rows) more h = rw (h .0, first-passed rows more (h .1))
 
 module _ (rows more : List Row) (values : List ℕ) where
+  pub rows-refused : {k : ℕ} → k ≡ first rows → 0 < k → (k, []) ≡ answer (first (rows ++ more)) values
+  rows-refused {k} e h =
+      sym (answer-number (first (rows ++ more)) k values h .1 (first-refused rows more (omega (arith, e)) ∙ sym e))
+
   pub layer-refused : (k v : ℕ) (vs : List ℕ) → (k, []) ≡ answer (first rows) (v ∷ vs)
       → (k, []) ≡ answer (first (rows ++ more)) values
   layer-refused k v vs e =
-      let r = answer-refused (first rows) k v vs e in
-      sym (answer-number (first (rows ++ more)) k values (omega (arith, r)) .1
-      (first-refused rows more (r .0) ∙ sym (r .1)))
+      let r = answer-refused (first rows) k v vs e in rows-refused (r .1) (omega (arith, r))
 
   pub layer-passed : {a : Answer} → All (λ (r : Row). 0 < r .0) rows → first rows ≡ 0
       → a ≡ answer (first more) values → a ≡ answer (first (rows ++ more)) values
   layer-passed h e p = p ∙ ap (λ n. answer n values) (sym (first-passed rows more (first-none rows h e)))
 
+-- where no row holds the answer is the values
+pub rows-none : (rows : List Row) (values : List ℕ) → first rows ≡ 0 → (0, values) ≡ answer (first rows) values
+rows-none rows values e = rw e
+
 -- ---- the rows of a call: 1, those of the list, and more
 
-rows-pass : (rows : List Row) (vs : List ℕ) → All (λ (r : Row). r .1 ≡ false) rows → answer (first rows) vs ≡ (0, vs)
+pub rows-pass : (rows : List Row) (vs : List ℕ) → All (λ (r : Row). r .1 ≡ false) rows
+    → answer (first rows) vs ≡ (0, vs)
 rows-pass [] vs h = refl
 rows-pass (r ∷ rows) vs h = rw (h .0) (rows-pass rows vs (h .1))
+
+-- where the number is 0 none of them holds
+pub rows-sound : (rows : List Row) (us values : List ℕ) → All (λ (r : Row). 0 < r .0) rows
+    → answer (first rows) values ≡ (0, us) → All (λ (r : Row). r .1 ≡ false) rows × (us ≡ values)
+rows-sound rows us values p e =
+    let a = answer-accepted (first rows) us values (sym e) in (first-none rows p (a .0), a .1)
 
 rows-apart : (rows more : List Row) → All (λ (r : Row). r .1 ≡ false) (rows ++ more)
     → (first rows ≡ 0) × All (λ (r : Row). r .1 ≡ false) more
@@ -108,6 +121,14 @@ first-here : (rows more : List Row) (k : ℕ) (t : Bool) → All (λ (r : Row). 
     → first (rows ++ (k, t) ∷ more) ≡ k
 first-here rows more k t p e = first-passed rows ((k, t) ∷ more) p ∙ ap (λ (s : Bool). cond s k (first more)) e
 
+-- a number is answered just where its row is the first that holds
+pub row-refused : (rows more : List Row) (k : ℕ) (t : Bool) (values : List ℕ) → 0 < k → All (λ (r : Row). r .0 ≢ k) rows
+    → All (λ (r : Row). r .0 ≢ k) more
+    → (answer (first (rows ++ (k, t) ∷ more)) values ≡ (k, [])) ↔ (All (λ (r : Row). r .1 ≡ false) rows × (t ≡ true))
+row-refused rows more k t values h p q =
+    let number = answer-number (first (rows ++ (k, t) ∷ more)) k values h in
+    ((λ e. first-at rows more k t h p q (number .0 e)), λ s. number .1 (first-here rows more k t (s .0) (s .1)))
+
 module _ (list lent : List ℕ) (more : List Row) where
   abbrev called : List Row
   called = callRows (fewWords lent) list ++ more
@@ -126,12 +147,11 @@ module _ (list lent : List ℕ) (more : List Row) where
       → (fewWords lent ≡ false) × (first (listRows lists list) ≡ 0) × All (λ (r : Row). r .1 ≡ false) more
       × (us ≡ values)
   call-sound us values p e =
-      let a = answer-accepted (first called) us values (sym e) in
       let b =
-      first-none called
-      (omega arith, all-append (λ (r : Row). 0 < r .0) (listRows lists list) more (omega arith) p) (a .0) in
-      let c = rows-apart (listRows lists list) more (b .1) in
-      (b .0, c .0, c .1, a .1)
+      rows-sound called us values
+      (omega arith, all-append (λ (r : Row). 0 < r .0) (listRows lists list) more (omega arith) p) e in
+      let c = rows-apart (listRows lists list) more (b .0 .1) in
+      (b .0 .0, c .0, c .1, b .1)
 
 -- a number above 6 is answered just where its row is the first that holds
 pub call-refused : (list lent : List ℕ) (rows more : List Row) (k : ℕ) (t : Bool) (values : List ℕ) → 6 < k
@@ -148,8 +168,11 @@ call-refused list lent rows more k t values h p q = (to, from)
     others =
         ((λ e. omega arith), ((λ e. omega arith), ((λ e. omega arith), ((λ e. omega arith), ((λ e. omega arith), tt)))))
 
-    number : (answer (first (before ++ (k, t) ∷ more)) values ≡ (k, [])) ↔ (first (before ++ (k, t) ∷ more) ≡ k)
-    number = answer-number (first (before ++ (k, t) ∷ more)) k values (omega arith)
+    just : (answer (first (before ++ (k, t) ∷ more)) values ≡ (k, []))
+        ↔ (All (λ (r : Row). r .1 ≡ false) before × (t ≡ true))
+    just =
+        row-refused before more k t values (omega arith)
+        ((λ e. omega arith), all-append (λ (r : Row). r .0 ≢ k) (listRows lists list) rows others p) q
 
     Says : Type 0
     Says =
@@ -158,17 +181,16 @@ call-refused list lent rows more k t values h p q = (to, from)
 
     to : answer (first (before ++ (k, t) ∷ more)) values ≡ (k, []) → Says
     to e =
-        let a =
-        first-at before more k t (omega arith)
-        ((λ e. omega arith), all-append (λ (r : Row). r .0 ≢ k) (listRows lists list) rows others p) q
-        (number .0 e) in
+        let a = just .0 e in
         let b = rows-apart (listRows lists list) rows (a .0 .1) in
         (a .0 .0, b .0, b .1, a .1)
 
     from : Says → answer (first (before ++ (k, t) ∷ more)) values ≡ (k, [])
     from s =
-        number .1 (first-here before more k t (
-          s .0,
-          all-append (λ (r : Row). r .1 ≡ false) (listRows lists list) rows (list-none lists list (s .1))
-              (s .2),
-        ) (s .3))
+        just .1 (
+          (
+            s .0,
+            all-append (λ (r : Row). r .1 ≡ false) (listRows lists list) rows (list-none lists list (s .1)) (s .2),
+          ),
+          s .3,
+        )

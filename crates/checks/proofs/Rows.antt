@@ -2,10 +2,11 @@
 -- and, for each condition that the laws of files use, what its failing says.
 use Prim.Native.Nat.{ℕ, _+_, _*_, _<_, _≤_}
 use mathlib.Core.Path.{_≡_, refl, ap, _∙_}
+use mathlib.Core.Logic.{_≢_}
 use mathlib.Core.Bool.{Bool, true, false, true≢false, not, cond, _||_}
 use mathlib.Core.List.{List, [], _∷_, map, map-map}
 use native.Mathlib.Omega.{arith}
-use borrow.Author.Tests.{eqb-true, ltb-false, leb-false, not-false}
+use borrow.Author.Tests.{eqb-true, eqb-false, ltb-false, leb-false, not-false}
 use lib.Dec.{ltb, leb, eqb}
 use lib.ListN.{length, getD}
 use Rattle.matching.specs.Lists.{any, mem, All}
@@ -14,7 +15,7 @@ use Rattle.matching.specs.Listed.{Entry}
 use Rattle.cellfile.specs.Files.{Layout, kindOf, cellsOf, countOf, zerosOf, fileLength, pairing, asPair}
 use Rattle.cellfile.specs.Files.{readEntries, pairsOf, listLayout, entriesAll, entryKey}
 use Rattle.checks.specs.Refusals.{Row, first, listRows, notAList, wrongLength, strayPair, strayEntry, tooLarge}
-use Rattle.checks.specs.Refusals.{ascendingFrom, unordered, misheaded, badPair, badPairing}
+use Rattle.checks.specs.Refusals.{ascendingFrom, unordered, misheaded, badPair, badPairing, loosePair, badRaw}
 use Rattle.matching.proofs.Alls.{all-map}
 use Rattle.cellfile.proofs.All.{all-values}
 
@@ -27,6 +28,10 @@ or-none false b e = (refl, e)
 pub any-none : {A : Type 0} (t : A → Bool) (xs : List A) → any t xs ≡ false → All (λ (x : A). t x ≡ false) xs
 any-none t [] e = tt
 any-none t (x ∷ xs) e = let h = or-none (t x) (any t xs) e in (h .0, any-none t xs (h .1))
+
+pub any-fails : {A : Type 0} (t : A → Bool) (xs : List A) → All (λ (x : A). t x ≡ false) xs → any t xs ≡ false
+any-fails t [] h = refl
+any-fails t (x ∷ xs) h = rw (h .0) (any-fails t xs (h .1))
 
 -- of a test for a difference
 pub differ-none : (a b : ℕ) → not (eqb a b) ≡ false → a ≡ b
@@ -82,6 +87,25 @@ stray-entry-none s e =
 pub unordered-none : (s : List ℕ) → unordered s ≡ false → ascendingFrom 0 (map entryKey (entriesAll s)) ≡ true
 unfolding unordered
 unordered-none s e = not-false _ e
+
+pub loose-pair-none : (n a b : ℕ) → loosePair n a b ≡ false → (a ≢ b) × (a < n) × (b < n)
+loose-pair-none n a b e =
+    let h = or-none (eqb a b) _ e in
+    let g = or-none (leb n a) _ (h .1) in
+    (eqb-false a b (h .0), leb-false n a (g .0), leb-false n b (g .1))
+
+pub bad-raw-none : (s : List ℕ) → badRaw s ≡ false
+    → ((cellsOf s ≤ 1024) × (countOf s ≤ 4096)) × (length s ≡ fileLength (listLayout s) (cellsOf s) (countOf s))
+    × All (λ (e : Entry). (e .0 ≢ e .1) × (e .0 < cellsOf s) × (e .1 < cellsOf s)) (entriesAll s)
+unfolding badRaw
+bad-raw-none s e =
+    let b = or-none (tooLarge s) _ (or-none (notAList _ s) _ e .1) in
+    let c = or-none (wrongLength s) _ (b .1) in (
+      too-large-none s (b .0),
+      wrong-length-none s (c .0),
+      all-map (λ (x : Entry). loose-pair-none (cellsOf s) (x .0) (x .1)) (entriesAll s)
+          (any-none (λ (x : Entry). loosePair (cellsOf s) (x .0) (x .1)) (entriesAll s) (c .1)),
+    )
 
 pub misheaded-none : (l : Layout) (n : ℕ) (s : List ℕ) → misheaded l n s ≡ false
     → (kindOf s ≡ l .kind) × (cellsOf s ≡ n) × (zerosOf s ≡ 0)

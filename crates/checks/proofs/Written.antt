@@ -1,11 +1,12 @@
 -- What is written is not refused. In order: the header of a file that fits is read again (`header-read`), and the
 -- entries (`entries-read`); refusals 7 and 9 find no fault in the header (`headed`); a well-formed list passes 2 to 6
--- (`list-passes`) and is read again (`list-cells`, `list-written`); a slip of steps that have a rule passes 7
--- (`slip-passes`), and its steps are read again (`steps-read`); pairs of n cells in file order, as a pairing, pass 9
--- (`pairing-passes`) and are read again (`pairs-read`). Assumes nothing.
+-- (`list-passes`) and is read again (`list-cells`, `list-written`), a raw list passes 13 (`raw-passes`) and is read
+-- again (`raw-cells`, `raw-written`); a slip of steps that have a rule passes 7 (`slip-passes`), and its steps are read
+-- again (`steps-read`); pairs of n cells in file order, as a pairing, pass 9 (`pairing-passes`) and are read again
+-- (`pairs-read`). Assumes nothing.
 use Prim.Native.Nat.{ℕ, suc, _+_, _≤_, _<_}
 use mathlib.Core.Path.{_≡_, refl, sym, ap, _∙_}
-use mathlib.Core.Logic.{inl, inr}
+use mathlib.Core.Logic.{inl, inr, _≢_}
 use mathlib.Core.Bool.{true, false, not}
 use mathlib.Core.List.{List, [], _∷_, _++_, map}
 use native.Mathlib.Omega.{arith}
@@ -15,18 +16,26 @@ use Rattle.matching.specs.Lists.{All, any}
 use Rattle.matching.specs.Pairs.{Pair, Each}
 use Rattle.matching.specs.Listed.{Entry, Before, Accepted}
 use Rattle.matching.proofs.Alls.{all-map}
+use Rattle.matching.proofs.Entries.{accepted-all}
 use Rattle.matching.proofs.Filed.{InOrder}
 use Rattle.matching.proofs.Sums.{each-map, each-all}
 use Rattle.cellfile.specs.Fields.{readRecord, writeRecord, writeRecords}
-use Rattle.cellfile.specs.Files.{Layout, storeList, slip, pairing, fileLength, File, writeFile, readEntries}
+use Rattle.cellfile.specs.Files.{Layout, storeList, rawList, slip, pairing, fileLength, File, writeFile, readEntries}
 use Rattle.cellfile.specs.Files.{asEntry, asFields, entriesOf, header, kindOf, cellsOf, countOf, zerosOf, asPair}
-use Rattle.cellfile.specs.Files.{stepsOf, pairsOf, pairFields, key, entryKey, listLayout, entriesAll}
+use Rattle.cellfile.specs.Files.{stepsOf, pairsOf, pairFields, key, entryKey, listLayout, entriesAll, listFile, rawFile}
 use Rattle.cellfile.specs.Fits.{FitsFields, FitsFile}
 use Rattle.checks.specs.Refusals.{first, lists, listRows, notAList, tooLarge, wrongLength, strayPair, strayEntry}
 use Rattle.checks.specs.Refusals.{ascendingFrom, unordered, misheaded, noRule, badSlip, badPair, badPairing}
+use Rattle.checks.specs.Refusals.{loosePair, badRaw}
+use Rattle.checks.specs.Loops.{headRows, entryRows}
 use Rattle.cellfile.proofs.All.{all-values}
 use Rattle.cellfile.proofs.Fields.{read-write-record}
+use Rattle.cellfile.proofs.Lists.{layout-store, layout-raw}
 use Rattle.cellfile.proofs.RoundTrip.{read-write, length-file}
+use Rattle.checks.proofs.Rows.{any-fails, first-none}
+use Rattle.checks.proofs.Layers.{first-passed}
+use Rattle.checks.proofs.Forms.{raw-entries, loose-not}
+use Rattle.checks.proofs.Accepted.{all-with}
 
 -- ---- the header
 
@@ -65,7 +74,7 @@ module _ (l : Layout) (f : File) (fits : FitsFile l f) where
         eq-eqb (length s) (fileLength l (cellsOf s) (countOf s)) (long ∙ rw (cells-read, count-read)),
       )
 
--- ---- lists
+-- ---- lists: their order, and their cells
 
 key-before : (e f : Entry) → e .1 < 1024 → Before e f → key (e .0) (e .1) < key (f .0) (f .1)
 key-before e f l (inl p) = omega arith
@@ -99,77 +108,90 @@ entries-written l n extra es fits =
     ap (map asEntry) (entries-read l (record { cells = n; extra = extra; entries = map asFields es }) fits)
     ∙ entries-again es
 
-module _ (n : ℕ) (es : List Entry) (le : n ≤ 1024) (few : length es ≤ 4096) (h : Accepted n es)
-    (small : All (λ (e : Entry). e .2 < 1048576) es) where
+-- a list of that kind, with the fields of a store list
+abbrev ofKind : ℕ → Layout
+ofKind kind = record { kind = kind; extra = storeList .extra; entry = storeList .entry }
+
+-- An entry of n cells, with points of 20 bits.
+abbrev Small : ℕ → Entry → Type 0
+Small n e = (e .0 < n) × (e .1 < n) × (e .2 < 1048576)
+
+module _ (kind n : ℕ) (es : List Entry) (top : kind < 16) (le : n ≤ 1024) (few : length es ≤ 4096)
+    (small : All (Small n) es) where
+  abbrev l : Layout
+  l = ofKind kind
+
   abbrev said : File
   said = record { cells = n; extra = []; entries = map asFields es }
 
   abbrev s : List ℕ
-  s = writeFile storeList said
+  s = writeFile l said
 
-  list-fits : FitsFile storeList said
-  list-fits = record {
-    kind = omega arith;
+  fit : FitsFile l said
+  fit = record {
+    kind = top;
     cells = omega (arith, le);
     count = omega (arith, length-map es asFields, few);
     whole-extra = refl;
     whole-entry = refl;
     extra = tt;
-    entries = all-values asFields (FitsFields (storeList .entry)) es (each es h small);
+    entries =
+        all-values asFields (FitsFields (storeList .entry)) es
+        (all-map (λ (e : Entry) h. (omega (arith, h .0), (omega (arith, h .1), (h .2, tt)))) es small);
   }
-    where
-      each : (es : List Entry) → Accepted n es → All (λ (e : Entry). e .2 < 1048576) es
-          → All (λ (e : Entry). FitsFields (storeList .entry) (asFields e)) es
-      each [] a p = tt
-      each (e ∷ es) a p =
-          ((omega (arith, a .0 .0, a .0 .1), (omega (arith, a .0 .1), (p .0, tt))), each es (a .1 .1) (p .1))
 
-  -- its layout is the store list's
-  layout : listLayout s ≡ storeList
-  unfolding listLayout
-  layout = refl
+  its-cells : cellsOf s ≡ n
+  its-cells = cells-read l said fit
 
-  pub list-written : entriesAll (writeFile storeList said) ≡ es
-  unfolding entriesAll
-  list-written = rw layout (entries-written storeList n [] es list-fits)
+  its-kind : kindOf s ≡ kind
+  its-kind = kind-read l said fit
 
-  pub list-cells : cellsOf (writeFile storeList said) ≡ n
-  list-cells = cells-read storeList said list-fits
+  module _ (layout : listLayout s ≡ l) where
+    its-entries : entriesAll s ≡ es
+    unfolding entriesAll
+    its-entries = rw layout (entries-written l n [] es fit)
 
-  two : notAList lists s ≡ false
-  unfolding notAList
-  two =
-      rw (
-        le-ltb (length s) 4 (omega (arith, length-file storeList said)),
-        eq-eqb 1 (kindOf s) (sym (kind-read storeList said list-fits)),
-        eq-eqb (zerosOf s) 0 (zeros-read storeList said list-fits),
-      )
+    -- refusals 2 to 4 find no fault
+    its-head : first (headRows (kind ∷ []) s) ≡ 0
+    unfolding notAList tooLarge wrongLength
+    its-head =
+        rw (
+          le-ltb (length s) 4 (omega (arith, length-file l said)),
+          eq-eqb kind (kindOf s) (sym its-kind),
+          eq-eqb (zerosOf s) 0 (zeros-read l said fit),
+          le-ltb 1024 (cellsOf s) (omega (arith, its-cells, le)),
+          le-ltb 4096 (countOf s) (omega (arith, count-read l said fit, length-map es asFields, few)),
+          layout,
+          eq-eqb (length s) (fileLength l (cellsOf s) (countOf s)) (length-file l said ∙ rw (count-read l said fit)),
+        )
 
-  three : tooLarge s ≡ false
-  unfolding tooLarge
-  three =
-      rw (
-        le-ltb 1024 (cellsOf s) (omega (arith, list-cells, le)),
-        le-ltb 4096 (countOf s) (omega (arith, count-read storeList said list-fits, length-map es asFields, few)),
-      )
+-- ---- a store list
 
-  four : wrongLength s ≡ false
-  unfolding wrongLength
-  four =
-      rw (
-        layout,
-        eq-eqb (length s) (fileLength storeList (cellsOf s) (countOf s))
-            (length-file storeList said ∙ rw (count-read storeList said list-fits)),
-      )
+module _ (n : ℕ) (es : List Entry) (le : n ≤ 1024) (few : length es ≤ 4096) (h : Accepted n es)
+    (small : All (λ (e : Entry). e .2 < 1048576) es) where
+  abbrev small-store : All (Small n) es
+  small-store =
+      all-with (λ (e : Entry). e .2 < 1048576) (Small n) es small
+      (all-map {Q = λ (e : Entry). e .2 < 1048576 → Small n e} (λ e f p. (omega (arith, f), f .1, p)) es
+      (accepted-all n es h))
 
-  five : strayEntry s ≡ false
+  store-layout : listLayout (listFile n es) ≡ storeList
+  store-layout = layout-store (listFile n es) (its-kind 1 n es (omega arith) le few small-store)
+
+  pub list-written : entriesAll (listFile n es) ≡ es
+  list-written = its-entries 1 n es (omega arith) le few small-store store-layout
+
+  pub list-cells : cellsOf (listFile n es) ≡ n
+  list-cells = its-cells 1 n es (omega arith) le few small-store
+
+  five : strayEntry (listFile n es) ≡ false
   unfolding strayEntry
   five =
-      ap (λ (c : ℕ). any (λ (e : Entry). strayPair c (e .0) (e .1)) (entriesAll s)) list-cells
+      ap (λ (c : ℕ). any (λ (e : Entry). strayPair c (e .0) (e .1)) (entriesAll (listFile n es))) list-cells
       ∙ ap (any (λ (e : Entry). strayPair n (e .0) (e .1))) list-written
       ∙ none-stray n es h
 
-  six : unordered s ≡ false
+  six : unordered (listFile n es) ≡ false
   unfolding unordered
   six =
       ap (λ (fs : List Entry). not (ascendingFrom 0 (map entryKey fs))) list-written
@@ -180,8 +202,37 @@ module _ (n : ℕ) (es : List Entry) (le : n ≤ 1024) (few : length es ≤ 4096
       all-true (e ∷ es) = (omega arith, all-true es)
 
   -- A well-formed list is not refused.
-  pub list-passes : first (listRows lists (writeFile storeList said)) ≡ 0
-  list-passes = rw (two, three, four, five, six)
+  pub list-passes : first (listRows lists (listFile n es)) ≡ 0
+  list-passes =
+      first-passed (headRows lists (listFile n es)) (entryRows (listFile n es))
+      (first-none (headRows lists (listFile n es)) (omega arith)
+      (its-head 1 n es (omega arith) le few small-store store-layout)) ∙ rw (five, six)
+
+-- ---- a raw list
+
+module _ (n : ℕ) (es : List Entry) (le : n ≤ 1024) (few : length es ≤ 4096)
+    (two : All (λ (e : Entry). (e .0 ≢ e .1) × (e .0 < n) × (e .1 < n)) es)
+    (small : All (λ (e : Entry). e .2 < 1048576) es) where
+  abbrev small-raw : All (Small n) es
+  small-raw =
+      all-with (λ (e : Entry). e .2 < 1048576) (Small n) es small
+      (all-map {Q = λ (e : Entry). e .2 < 1048576 → Small n e} (λ e t p. (t .1, t .2, p)) es two)
+
+  raw-layout : listLayout (rawFile n es) ≡ rawList
+  raw-layout = layout-raw (rawFile n es) (its-kind 6 n es (omega arith) le few small-raw)
+
+  pub raw-written : entriesAll (rawFile n es) ≡ es
+  raw-written = its-entries 6 n es (omega arith) le few small-raw raw-layout
+
+  pub raw-cells : cellsOf (rawFile n es) ≡ n
+  raw-cells = its-cells 6 n es (omega arith) le few small-raw
+
+  pub raw-passes : badRaw (rawFile n es) ≡ false
+  raw-passes =
+      sym (raw-entries (rawFile n es) (its-head 6 n es (omega arith) le few small-raw raw-layout) (sym raw-cells))
+      ∙ ap (any (λ (e : Entry). loosePair n (e .0) (e .1))) raw-written
+      ∙ any-fails (λ (e : Entry). loosePair n (e .0) (e .1)) es
+      (all-map (λ (e : Entry) t. loose-not n (e .0) (e .1) (t .0) (t .1) (t .2)) es two)
 
 -- ---- slips
 

@@ -6,7 +6,7 @@ use Prim.Native.Nat.{ℕ, _≤_}
 use lib.ListN.{length}
 use Rattle.matching.specs.Lists.{All}
 use Rattle.checks.specs.Refusals.{Row, first}
-use Rattle.checks.specs.Calls.{roomRow}
+use Rattle.checks.specs.Calls.{filing}
 use Rattle.cellfile.specs.Answers.{Answer, answer, written}
 
 -- An output of a call: the file that is for it, what it held before, and what it holds afterwards.
@@ -19,9 +19,9 @@ rooms outs = map (λ (o : Output). (length (o .1), o .0)) outs
 abbrev pub lengths : List Output → List ℕ
 lengths outs = map (λ (o : ℕ × List ℕ). length (o .1)) (rooms outs)
 
--- The answer to the rows and refusal 12: the length of each file. The files are written where nothing is refused.
+-- The answer by the rows and refusal 12. The files are written where nothing is refused.
 pub record Does (rows : List Row) (outs : List Output) (a : Answer) : Type 0 where
-  pub says : a ≡ answer (first (rows ++ (roomRow (rooms outs) ∷ []))) (lengths outs)
+  pub says : a ≡ filing rows (rooms outs)
   pub writes : All (λ (o : Output). o .2 ≡ written (a .0) (o .0) (o .1)) outs
 
 -- Where the work buffers are not found too short they have the words that every call needs.

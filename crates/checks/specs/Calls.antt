@@ -36,9 +36,10 @@ crowdedRow left = (11, crowded left)
 abbrev pub roomRow : List (ℕ × List ℕ) → Row
 roomRow outs = (12, shortOutput outs)
 
--- The answer of a call that writes files, for the lengths of the work buffers lent, the list, the call's own refusals,
--- and the room and the file of each output.
+-- The answer of a call that writes files, for its refusals before 12, and the room and the file of each output.
+abbrev pub filing : List Row → List (ℕ × List ℕ) → Answer
+filing rows outs = answer (first (rows ++ roomRow outs ∷ [])) (map (λ (o : ℕ × List ℕ). length (o .1)) outs)
+
+-- That of a call on a list, for the lengths of the work buffers lent, the list, and the call's own refusals.
 abbrev pub answering : (lent list : List ℕ) → List Row → List (ℕ × List ℕ) → Answer
-answering lent list own outs =
-    answer (first ((callRows (fewWords lent) list ++ own) ++ roomRow outs ∷ []))
-    (map (λ (o : ℕ × List ℕ). length (o .1)) outs)
+answering lent list own outs = filing (callRows (fewWords lent) list ++ own) outs

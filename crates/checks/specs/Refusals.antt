@@ -10,7 +10,7 @@ use Rattle.matching.specs.Pairs.{Pair, Points}
 use Rattle.matching.specs.Pairing.{isPairing}
 use Rattle.matching.specs.Listed.{Entry}
 use Rattle.cellfile.specs.Files.{kindOf, cellsOf, countOf, zerosOf, Layout, slip, pairing, fileLength, readEntries}
-use Rattle.cellfile.specs.Files.{listLayout, entriesAll, stepsOf, entryKey}
+use Rattle.cellfile.specs.Files.{rawList, listLayout, entriesAll, stepsOf, entryKey}
 
 -- A row: the refusal's number, and whether its condition holds.
 abbrev pub Row : Type 0
@@ -106,3 +106,13 @@ crowded left = ltb 12 left
 -- 12. 'An output is shorter than its file.' Given the room of each output and its file.
 unfoldable pub shortOutput : List (ℕ × List ℕ) → Bool
 shortOutput outs = any (λ (o : ℕ × List ℕ). ltb (o .0) (length (o .1))) outs
+
+-- 13, of a raw list, in place of 2 to 6: 'a wrong kind, zero bit, n, m or length, or an entry with one cell twice or a
+-- cell not below n'.
+abbrev pub loosePair : ℕ → ℕ → ℕ → Bool
+loosePair n a b = eqb a b || (leb n a || leb n b)
+
+unfoldable pub badRaw : List ℕ → Bool
+badRaw s =
+    notAList (rawList .kind ∷ []) s || (tooLarge s || (wrongLength s
+    || any (λ (e : Entry). loosePair (cellsOf s) (e .0) (e .1)) (entriesAll s)))

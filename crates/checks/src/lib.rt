@@ -1,5 +1,5 @@
-// Inner, for the calls: checks the form of a list (refusals 2 to 6), a slip (7) and a pairing (9); and looks up pairs
-// in a list.
+// Inner, for the calls: checks the form of a list (refusals 2 to 6), a slip (7), a pairing (9) and a raw list (13); and
+// looks up pairs in a list.
 use buffers::map::WORDS;
 use cellfile::decode;
 use cellfile::format;
@@ -10,13 +10,13 @@ ghost use Rattle.matching.specs.Lists.{any};
 ghost use Rattle.cellfile.specs.Files.{Layout, slip as slipLayout, pairing as pairingLayout, cellsOf, countOf, stepsOf};
 ghost use Rattle.cellfile.specs.Files.{readEntries, listLayout};
 ghost use Rattle.checks.specs.Refusals.{first, fewWords, lists, listRows, notAList, tooLarge};
-ghost use Rattle.checks.specs.Refusals.{misheaded, rules, noRule, badSlip, badPairing};
+ghost use Rattle.checks.specs.Refusals.{misheaded, rules, noRule, badSlip, badPairing, loosePair, badRaw};
 ghost use Rattle.cellfile.specs.Words.{Plain};
 ghost use Rattle.cellfile.specs.Answers.{answer};
 ghost use Rattle.buffers.specs.Buffers.{lent};
 ghost use Rattle.checks.specs.Calls.{callRows};
 ghost use Rattle.checks.specs.Checking.{checked};
-ghost use Rattle.checks.specs.Loops.{WholeFile, entryRows, badPairs};
+ghost use Rattle.checks.specs.Loops.{WholeFile, headRows, entryRows, badPairs, someFrom};
 ghost use Rattle.checks.specs.Merging.{Seeks};
 
 // A file's refusal, or its cells n and its count m.
@@ -36,15 +36,15 @@ const MOST_CELLS: usize = 1024;
 
 const MOST_ENTRIES: usize = 4096;
 
-// Refusal 2.
-fn not_a_list(list: &[u8]) -> bool
-    ensures { λ r. ⌜ r ≡ notAList lists (now (list .entry)) ⌝ }
+// Refusal 2, for lists of one kind.
+fn not_a_list(list: &[u8], kind: u64) -> bool
+    ensures { λ r. ⌜ r ≡ notAList (kind ∷ []) (now (list .entry)) ⌝ }
 {
     if list.len() < 4 {
         return true;
     }
     let h = decode::header_at(list);
-    if h.kind != format::STORE_LIST {
+    if h.kind != kind {
         return true;
     }
     h.zeros != 0
@@ -88,28 +88,75 @@ fn check_entries(list: &[u8], n: usize, m: usize) -> u32
     k
 }
 
+// Refusals 2 to 4, for lists of one kind: the number of the first that holds, or 0.
+fn check_head(list: &[u8], kind: u64) -> u32
+    ensures { λ r. ⌜ r ≡ first (headRows (kind ∷ []) (now (list .entry))) ⌝ }
+{
+    if not_a_list(list, kind) {
+        return 2;
+    }
+    if too_large(list) {
+        return 3;
+    }
+    let h = decode::header_at(list);
+    let m = h.m;
+    if list.len() != decode::list_length(list, m) {
+        return 4;
+    }
+    0
+}
+
 // Refusals 2 to 6.
 pub fn check_list(list: &[u8]) -> Checked
     ensures { λ r. ⌜ checked r ≡ answer (first (listRows lists (now (list .entry))))
         (cellsOf (now (list .entry)) ∷ countOf (now (list .entry)) ∷ []) ⌝ }
 {
-    if not_a_list(list) {
-        return Checked::Refused(2);
-    }
-    if too_large(list) {
-        return Checked::Refused(3);
+    let k = check_head(list, format::STORE_LIST);
+    if k > 0 {
+        return Checked::Refused(k);
     }
     let h = decode::header_at(list);
     let n = h.n;
     let m = h.m;
-    if list.len() != decode::list_length(list, m) {
-        return Checked::Refused(4);
-    }
     let k = check_entries(list, n, m);
     if k > 0 {
         return Checked::Refused(k);
     }
     Checked::Accepted { n, m }
+}
+
+// Whether some entry of a raw list has one cell twice or a cell not below n.
+fn loose_entries(raw: &[u8], n: usize, m: usize) -> bool
+    requires { ⌜ WholeFile (listLayout (now raw)) (now raw) m ⌝ }
+    ensures { λ r. ⌜ r ≡ someFrom (loosePair n) (now (raw .entry)) 0 ⌝ }
+{
+    let shape = decode::shape_of(raw);
+    let mut i = 0;
+    while i < m {
+        let e = decode::list_entry(raw, shape, i);
+        if e.a == e.b {
+            return true;
+        }
+        if n <= e.a {
+            return true;
+        }
+        if n <= e.b {
+            return true;
+        }
+        i += 1;
+    }
+    false
+}
+
+// Refusal 13.
+pub fn bad_raw(raw: &[u8]) -> bool
+    ensures { λ r. ⌜ r ≡ badRaw (now (raw .entry)) ⌝ }
+{
+    if check_head(raw, format::RAW_LIST) > 0 {
+        return true;
+    }
+    let h = decode::header_at(raw);
+    loose_entries(raw, h.n, h.m)
 }
 
 // Refusal 1.

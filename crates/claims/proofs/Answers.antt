@@ -48,7 +48,7 @@ rooms-there r s f g e =
     (ltb-false r (length f) (a .0), ltb-false s (length g) (or-none _ _ (a .1) .0))
 
 -- from the rows of a call with one output
-wrote : {file lent : List ℕ} {room i : ℕ} → fewWords lent ≡ false → shortOutput ((room, file) ∷ []) ≡ false
+pub wrote : {file lent : List ℕ} {room i : ℕ} → fewWords lent ≡ false → shortOutput ((room, file) ∷ []) ≡ false
     → i ∷ [] ≡ length file ∷ [] → Wrote file lent room i
 wrote {file} {lent} {room} few r v =
     record { words = few; fits = room-there room file r; value = ap (λ (vs : List ℕ). getD vs 0 0) v }

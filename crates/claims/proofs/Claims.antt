@@ -17,7 +17,7 @@ use Rattle.matching.proofs.Pairing.{pairing-is}
 use Rattle.matching.proofs.Published.{weightless, slip-published}
 use Rattle.matching.proofs.Reduce.{replay-is, carried-sum, reduce-in-turn}
 use Rattle.matching.proofs.Ways.{slip-lifts}
-use Rattle.cellfile.specs.Files.{cellsOf, entriesAll, pairsOf}
+use Rattle.cellfile.specs.Files.{cellsOf, entriesAll, pairsOf, listFile}
 use Rattle.cellfile.proofs.Lists.{view-all}
 use Rattle.checks.specs.Refusals.{fewWords, badPairing}
 use Rattle.checks.proofs.Layers.{call-passes}
@@ -32,7 +32,7 @@ use Rattle.reduction.proofs.Reducing.{reduce-allowed}
 use Rattle.lifting.specs.Calls.{pairFile, liftFile}
 use Rattle.lifting.proofs.Filing.{file-read, file-pairing, file-formed, file-longest, all-entries}
 use Rattle.claims.specs.Demand.{AcceptedList, storeOf, shortOf, PairingOf, WritesBoth, Allowed, Liftable}
-use Rattle.claims.specs.Claims.{WellFormed, listFile, ListClaim, SlipClaim, PairingClaim, Met, ReplayClaim}
+use Rattle.claims.specs.Claims.{WellFormed, ListClaim, SlipClaim, PairingClaim, Met, ReplayClaim}
 use Rattle.claims.specs.Claims.{LiftClaim, reduceSlip, reduceShort, ReduceClaim}
 use Rattle.claims.proofs.Slips.{slip-names, slip-allowed, slip-longest, short-longest, rs, same-file, short-is}
 use Rattle.claims.proofs.Slips.{carried-is, cells-are, replay-longest, short-entries-graph, pairing-after}

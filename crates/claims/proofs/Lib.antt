@@ -7,3 +7,4 @@ pub mod Solved
 pub mod Paired
 pub mod Answers
 pub mod Telling
+pub mod Tidied

@@ -19,8 +19,8 @@ use Rattle.matching.specs.Ties.{Lifts}
 use Rattle.matching.specs.Origin.{Origins, CameFrom}
 use Rattle.matching.specs.Published.{Rule23, AllPublished}
 use Rattle.matching.specs.Slip.{AreSteps, SomeStepNot, left, carries, InTurn}
-use Rattle.cellfile.specs.Files.{storeList, largest, cellsOf, entriesAll, stepsOf, pairsOf, carriedOf, asFields}
-use Rattle.cellfile.specs.Files.{originList, originFields, readEntries, writeFile, asName}
+use Rattle.cellfile.specs.Files.{storeList, largest, cellsOf, entriesAll, stepsOf, pairsOf, carriedOf, listFile}
+use Rattle.cellfile.specs.Files.{originList, originFields, readEntries, asName}
 use Rattle.checks.specs.Refusals.{fewWords, rules, badSlip, badPairing}
 use Rattle.cellfile.specs.Answers.{Answer}
 use Rattle.weighing.specs.Weigh.{weighing}
@@ -101,9 +101,6 @@ pub record WellFormed (n : ℕ) (es : List Entry) : Type 0 where
   pub count : length es ≤ 4096
   pub ascends : Accepted n es
   pub small : All (λ (e : Entry). e .2 ≤ largest storeList) es
-
-abbrev pub listFile : ℕ → List Entry → List ℕ
-listFile n es = writeFile storeList (record { cells = n; extra = []; entries = map asFields es })
 
 pub record ListClaim (n : ℕ) (es : List Entry) : Type 0 where
   pub accepted : AcceptedList (listFile n es)

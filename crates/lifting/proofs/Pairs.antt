@@ -1,38 +1,26 @@
--- The files that words make. In order: their length (`words-length`); one file refused or written by the output's room
--- (`pairs-refused`, `pairs-written`), and two (`both-first`, `both-second`, `both-written`); the file of the pairs that
--- the words stand for (`records-file`): a pairing (`pairs-file`), an origin list (`origins-file`), in which the steps'
--- numbers have room (`origins-eleven`). Assumes nothing.
-use mathlib.Core.Path.{_≡_, refl, sym, ap, ap₂, _∙_}
+-- The files that words make. In order: one file refused or written by the output's room (`pairs-refused`,
+-- `pairs-written`), and two (`both-first`, `both-second`, `both-written`); the file of the pairs that the words stand
+-- for: a pairing (`pairs-file`), an origin list (`origins-file`), in which the steps' numbers have room
+-- (`origins-eleven`). Assumes nothing.
+use mathlib.Core.Path.{_≡_, refl, ap, _∙_}
 use mathlib.Core.List.{List, [], _∷_, map}
 use Prim.Native.Nat.{ℕ, _+_, _*_, _-_, _≤_, _<_}
 use native.Mathlib.Omega.{arith}
-use lib.ListN.{length, take, drop, length-map, length-drop}
-use lib.Seq.{length-take-le, take-all}
+use lib.ListN.{length, take, drop, length-drop}
+use lib.Seq.{take-all}
 use Rattle.buffers.specs.Map.{atOrigins}
 use Rattle.matching.specs.Pairs.{Pair, Points, Each}
 use Rattle.matching.specs.Steps.{Step, by-leaf, by-ring, by-chain}
 use Rattle.matching.specs.Origin.{Origin, from-short, from-step, Origins, allShort, origins, numberIn}
-use Rattle.matching.proofs.Sums.{each-map}
+use Rattle.matching.proofs.Alls.{all-map, each-is-all}
 use Rattle.matching.proofs.Origin.{origins-few}
-use Rattle.cellfile.specs.Fields.{fields, packed}
-use Rattle.cellfile.specs.Files.{Layout, pairing as pairingLayout, originList, writeFile, onto, pairFields}
-use Rattle.cellfile.specs.Files.{originFields, fileLength, ruleIn}
+use Rattle.cellfile.specs.Files.{pairing as pairingLayout, originList, writeFile, onto, pairFields}
+use Rattle.cellfile.specs.Files.{originFields, ruleIn}
 use Rattle.cellfile.specs.Fits.{FitsFields}
-use Rattle.cellfile.specs.Words.{fileOf, Plain, pairWord, originWord}
-use Rattle.cellfile.proofs.Fields.{fields-packed}
-use Rattle.cellfile.proofs.RoundTrip.{length-file}
-use Rattle.cellfile.proofs.Outputs.{plain-length, plain-pairing, plain-origins}
+use Rattle.cellfile.specs.Words.{wordsFile, pairWord, originWord}
+use Rattle.cellfile.proofs.Outputs.{plain-pairing, plain-origins, words-length, records-file}
 use Rattle.checks.specs.Answering.{Output, Does}
-use Rattle.checks.proofs.Answering.{no-room, all-room}
-use Rattle.lifting.specs.Ending.{wordsFile}
-
-words-length : {l : Layout} {kind k : ℕ} → Plain l kind k → (n r : ℕ) (ws : List ℕ) → r ≤ length ws
-    → 4 + k * r ≡ length (wordsFile l n r ws)
-words-length {l} p n r ws h =
-    let all = take r ws in
-    let count : length (map (fields (l .entry)) all) ≡ r =
-    length-map all (fields (l .entry)) ∙ length-take-le r ws h in
-    sym (length-file l (fileOf l n [] all) ∙ ap (fileLength l n) count ∙ plain-length p n r)
+use Rattle.checks.proofs.Answering.{no-room, all-room, one-refused, one-written}
 
 -- ---- one file
 
@@ -44,11 +32,11 @@ module _ (n r : ℕ) (w1 out : List ℕ) (l : r ≤ length w1) where
   long = words-length plain-pairing n r w1 l
 
   pub pairs-refused : length out < 4 + 3 * r → Does [] ((wordsFile pairingLayout n r w1, out, out) ∷ []) (12, [])
-  pairs-refused m = no-room [] (pairs, out, out) [] (omega (arith, long)) (refl, tt)
+  pairs-refused m = one-refused pairs out long m
 
   pub pairs-written : {out′ : List ℕ} → 4 + 3 * r ≤ length out → out′ ≡ onto (wordsFile pairingLayout n r w1) out
       → Does [] ((wordsFile pairingLayout n r w1, out, out′) ∷ []) (0, (4 + 3 * r) ∷ [])
-  pairs-written {out′} m e = rw long (all-room ((pairs, out, out′) ∷ []) (omega (arith, long), tt) (e, tt))
+  pairs-written m e = one-written pairs out long m e
 
 -- ---- two files
 
@@ -91,18 +79,6 @@ module _ (n r : ℕ) (w1 out from : List ℕ) (few : r ≤ 512) (room : 8192 ≤
 
 -- ---- the pairs that the words stand for
 
-records-file : (l : Layout) (n r : ℕ) (ws : List ℕ) (g : Pair → List ℕ) (m : List Pair)
-    → take r ws ≡ map (λ (e : Pair). packed (l .entry) (g e)) m → Each (λ a b. FitsFields (l .entry) (g (a, b))) m
-    → wordsFile l n r ws ≡ writeFile l (record { cells = n; extra = []; entries = map g m })
-records-file l n r ws g m e h =
-    ap (λ vs. writeFile l (fileOf l n [] vs)) e
-    ∙ ap (λ rs. writeFile l (record { cells = n; extra = []; entries = rs })) (again m h)
-  where
-    again : (m : List Pair) → Each (λ a b. FitsFields (l .entry) (g (a, b))) m
-        → map (fields (l .entry)) (map (λ (e : Pair). packed (l .entry) (g e)) m) ≡ map g m
-    again [] h = refl
-    again (x ∷ m) h = ap₂ (λ v vs. v ∷ vs) (fields-packed (l .entry) (g x) (h .0)) (again m (h .1))
-
 -- Both cells have 10 bits.
 abbrev Ten : ℕ → ℕ → Type 0
 Ten a b = (a < 1024) × (b < 1024)
@@ -114,7 +90,8 @@ pub pairs-file : (n r : ℕ) (w1 : List ℕ) (m : List Pair) → take r w1 ≡ m
       entries = map pairFields m;
     })
 pairs-file n r w1 m e h =
-    records-file pairingLayout n r w1 pairFields m e (each-map (λ a b q. (q .0, (q .1, (omega arith, tt)))) m h)
+    records-file pairingLayout n r w1 pairFields m e
+    (all-map (λ (p : Pair) q. (q .0, (q .1, (omega arith, tt)))) m (each-is-all Ten m h))
 
 rule-few : (o : Origin) → ruleIn o < 8
 rule-few from-short = omega arith
@@ -141,4 +118,5 @@ pub origins-file : (n r : ℕ) (ws : List ℕ) (o : Origins) (m : List Pair) →
       entries = map (originFields o) m;
     })
 origins-file n r ws o m few e h =
-    records-file originList n r ws (originFields o) m e (each-map (origin-fits o few) m h)
+    records-file originList n r ws (originFields o) m e
+    (all-map (λ (p : Pair) q. origin-fits o few (p .0) (p .1) q) m (each-is-all Ten m h))

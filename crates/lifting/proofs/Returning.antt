@@ -24,7 +24,8 @@ use Rattle.checks.specs.Answering.{Does}
 use Rattle.lifting.specs.Calls.{pairFile}
 use Rattle.undoing.specs.Back.{BackThere, Lifted}
 use Rattle.partners.specs.Table.{Mates, TableThere, Listed}
-use Rattle.lifting.specs.Ending.{wordsFile, Change, backTo, ReturnThere}
+use Rattle.cellfile.specs.Words.{wordsFile}
+use Rattle.lifting.specs.Ending.{Change, backTo, ReturnThere}
 use Rattle.lifting.proofs.Pairs.{Eleven, origins-eleven, pairs-file, origins-file}
 
 module _ {n t count : ℕ} {w1 w2 : List ℕ} (h : ReturnThere n t count w1 w2) where

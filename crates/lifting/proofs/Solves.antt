@@ -26,7 +26,7 @@ use Rattle.starting.proofs.OnList.{left-there}
 use Rattle.lifting.specs.Calls.{pairFile, graphAfter, solvedFile, cellsAfter, solveRows, solveFile, bySteps}
 use Rattle.matching.specs.Solve.{solution}
 use Rattle.solving.specs.Left.{LeftThere, SolvedIn}
-use Rattle.lifting.specs.Ending.{wordsFile}
+use Rattle.cellfile.specs.Words.{wordsFile}
 use Rattle.lifting.proofs.Pairs.{pairs-file}
 use Rattle.solving.proofs.Solution.{solution-filed, solution-cells}
 

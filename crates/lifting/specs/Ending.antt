@@ -2,21 +2,14 @@
 use mathlib.Core.Path.{_≡_}
 use mathlib.Core.List.{List, [], _∷_}
 use Prim.Native.Nat.{ℕ}
-use lib.ListN.{take}
 use Rattle.matching.specs.Pairs.{Pair, Points}
 use Rattle.matching.specs.Steps.{Step}
 use Rattle.matching.specs.Slip.{lift}
 use Rattle.matching.specs.Origin.{allShort, origins}
-use Rattle.cellfile.specs.Files.{Layout, writeFile}
-use Rattle.cellfile.specs.Words.{fileOf}
 use Rattle.cellfile.specs.Answers.{Answer}
 use Rattle.checks.specs.Answering.{Output, Does}
 use Rattle.lifting.specs.Calls.{pairFile, originFile}
 use Rattle.undoing.specs.Back.{BackThere}
-
--- The file whose records are the first r words.
-abbrev pub wordsFile : Layout → ℕ → ℕ → List ℕ → List ℕ
-wordsFile l n r ws = writeFile l (fileOf l n [] (take r ws))
 
 -- An output before and afterwards.
 abbrev pub Change : Type 0

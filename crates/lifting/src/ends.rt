@@ -13,7 +13,8 @@ ghost use Rattle.buffers.specs.Map.{atOrigins};
 ghost use Rattle.cellfile.specs.Files.{pairing as pairingLayout, originList};
 ghost use Rattle.checks.specs.Calls.{answered};
 ghost use Rattle.checks.specs.Answering.{Does};
-ghost use Rattle.lifting.specs.Ending.{wordsFile, ReturnThere, Returns};
+ghost use Rattle.cellfile.specs.Words.{wordsFile};
+ghost use Rattle.lifting.specs.Ending.{ReturnThere, Returns};
 
 // Refusal 12 and the pairing of n cells whose pairs are the first r words.
 pub fn write_pairs(n: usize, w1: &[u64], r: usize, out: &mut [u8]) -> Lengths

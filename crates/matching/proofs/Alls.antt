@@ -5,7 +5,7 @@ use mathlib.Core.Logic.{_⊎_, inl, inr}
 use mathlib.Core.Bool.{true}
 use mathlib.Core.List.{List, [], _∷_, _++_, map}
 use Prim.Native.Nat.{ℕ}
-use Rattle.matching.specs.Lists.{mem, All}
+use Rattle.matching.specs.Lists.{mem, All, Ascends}
 use Rattle.matching.specs.Pairs.{Pair, Each}
 use Rattle.matching.proofs.Members.{mem-head, mem-on, mem-none, mem-more}
 
@@ -56,11 +56,6 @@ has-left (y ∷ xs) ys x (inr h) = inr (has-left xs ys x h)
 pub has-right : {A : Type 0} (xs ys : List A) (x : A) → Has ys x → Has (xs ++ ys) x
 has-right [] ys x h = h
 has-right (y ∷ xs) ys x h = inr (has-right xs ys x h)
-
--- Each element before all later ones.
-abbrev pub Ascends : {A : Type 0} → (A → A → Type 0) → List A → Type 0
-Ascends R [] = Unit {0}
-Ascends R (x ∷ xs) = All (R x) xs × Ascends R xs
 
 pub ascends-append : {A : Type 0} {R : A → A → Type 0} {P Q : A → Type 0} → ((x y : A) → P x → Q y → R x y)
     → (xs ys : List A) → All P xs → All Q ys → Ascends R xs → Ascends R ys → Ascends R (xs ++ ys)

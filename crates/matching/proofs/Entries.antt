@@ -10,14 +10,14 @@ use Prim.Native.Nat.{ℕ, _+_, _*_, _≤_, _<_}
 use native.Mathlib.Nat.{zero-add}
 use native.Mathlib.Omega.{arith}
 use lib.Dec.{ltb}
-use Rattle.matching.specs.Lists.{All}
+use Rattle.matching.specs.Lists.{All, Ascends}
 use Rattle.matching.specs.Pairs.{Pair, Points, ι, same, like}
 use Rattle.matching.specs.Pairing.{Once, Pairing}
 use Rattle.matching.specs.Listed.{Entry, Before, Accepted, total, joined, listed, points}
 use Rattle.matching.specs.Graph.{Graph}
 use Rattle.matching.proofs.Tests.{Test, pass, fail, isT, ltT, fails}
 use Rattle.matching.proofs.Pairs.{Same, Apart, sameT}
-use Rattle.matching.proofs.Alls.{Has, Ascends}
+use Rattle.matching.proofs.Alls.{Has}
 use Rattle.matching.proofs.Listed.{joined-same, listed-same, listed-apart}
 use Rattle.matching.proofs.Sums.{times-le, sum-add, sum-scale, sum-le-all, sum-none, each-map, each-all}
 use Rattle.matching.proofs.Sums.{same-turned, same-self, like-once}

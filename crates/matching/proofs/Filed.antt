@@ -9,13 +9,13 @@ use Prim.Native.Nat.{ℕ, _+_, _≤_, _<_, min, max}
 use native.Mathlib.Omega.{arith}
 use lib.Dec.{ltb}
 use borrow.Author.Tests.{lt-ltb}
-use Rattle.matching.specs.Lists.{All}
+use Rattle.matching.specs.Lists.{All, Ascends}
 use Rattle.matching.specs.Pairs.{Pair, Points, ι, sum, Each, hit, like}
 use Rattle.matching.specs.Pairing.{Once, Pairing}
 use Rattle.matching.specs.Listed.{filedIn, filed}
 use Rattle.matching.proofs.Tests.{Test, pass, fail, ltT}
 use Rattle.matching.proofs.Pairs.{Same, Apart, sameT}
-use Rattle.matching.proofs.Alls.{each-is-all, Has, all-at, Ascends, ascends-same}
+use Rattle.matching.proofs.Alls.{each-is-all, Has, all-at, ascends-same}
 use Rattle.matching.proofs.Sums.{each-map, each-zero, hit-turned, hit-some, like-turned, like-self}
 
 insert-sum : (f : Points) (e : Pair) (m : List Pair) → sum f (filedIn e m) ≡ f (e .0) (e .1) + sum f m

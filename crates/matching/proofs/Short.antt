@@ -10,13 +10,13 @@ use Prim.Native.Nat.{ℕ, zero, suc, _≤_, _<_}
 use native.Mathlib.Omega.{arith}
 use lib.Dec.{ltb}
 use borrow.Author.Tests.{lt-ltb}
-use Rattle.matching.specs.Lists.{All}
+use Rattle.matching.specs.Lists.{All, Ascends}
 use Rattle.matching.specs.Pairs.{Pair, Points, ι, sum}
 use Rattle.matching.specs.Pairing.{Pairing, Heaviest}
 use Rattle.matching.specs.Listed.{Entry, Before, Accepted, joined, listed, shortAt, shortBelow, shortList}
 use Rattle.matching.specs.Graph.{Graph}
 use Rattle.matching.proofs.Tests.{Test, pass, fail, eqT, ltT, andT}
-use Rattle.matching.proofs.Alls.{all-map, all-append, all-at, Has, has-left, has-right, Ascends, ascends-append}
+use Rattle.matching.proofs.Alls.{all-map, all-append, all-at, Has, has-left, has-right, ascends-append}
 use Rattle.matching.proofs.Sums.{each-map}
 use Rattle.matching.proofs.Entries.{accepted-of, listed-graph, listed-joined, joined-above, has-listed}
 use Rattle.matching.proofs.Entries.{listed-has}

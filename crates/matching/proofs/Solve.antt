@@ -10,13 +10,13 @@ use native.Mathlib.Omega.{arith}
 use lib.Dec.{eqb, ltb}
 use lib.ListN.{length}
 use borrow.Author.Tests.{eq-eqb}
-use Rattle.matching.specs.Lists.{mem, distinct, All}
+use Rattle.matching.specs.Lists.{mem, distinct, All, Ascends}
 use Rattle.matching.specs.Pairs.{Pair, Points, sum, Each, keep, touches}
 use Rattle.matching.specs.Best.{barred, H, best}
 use Rattle.matching.specs.Solve.{pairsWith, pairsAmong, solved, less, tries, solve}
 use Rattle.matching.proofs.Tests.{Test, pass, fail, isT, eqT, fails}
 use Rattle.matching.proofs.Members.{or-left, or-right, mem-on, mem-head, mem-apart, mem-past, distinct-cons}
-use Rattle.matching.proofs.Alls.{all-map, all-members, Ascends}
+use Rattle.matching.proofs.Alls.{all-map, all-members}
 use Rattle.matching.proofs.Sums.{keep-append, each-append, touchesT}
 use Rattle.matching.proofs.Best.{best-H, best-nil, best-cons}
 use Rattle.matching.proofs.Path.{best-ext}

@@ -28,6 +28,11 @@ abbrev pub All : {A : Type 0} → (A → Type 0) → List A → Type 0
 All P [] = Unit {0}
 All P (x ∷ xs) = P x × All P xs
 
+-- Each element stands in the order R before all later ones.
+abbrev pub Ascends : {A : Type 0} → (A → A → Type 0) → List A → Type 0
+Ascends R [] = Unit {0}
+Ascends R (x ∷ xs) = All (R x) xs × Ascends R xs
+
 -- The numbers together.
 abbrev pub together : List ℕ → ℕ
 together [] = 0

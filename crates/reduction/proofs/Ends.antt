@@ -1,32 +1,30 @@
 -- The end of a call. In order: the short list of the graph whose pairs stand as rows and cells, its length, refused or
 -- written by the output's room; the slip of the steps that stand as words, likewise (`taken-length`, `slip-file`); both
 -- files, of which neither is written where one has no room. Assumes nothing.
-use mathlib.Core.Path.{_≡_, refl, ap, ap₂, _∙_}
+use mathlib.Core.Path.{_≡_, refl, ap, _∙_}
 use mathlib.Core.List.{List, [], _∷_, map}
 use Prim.Native.Nat.{ℕ, _+_, _*_, _-_, _≤_, _<_}
 use native.Mathlib.Omega.{arith}
 use lib.ListN.{length, getD, take, drop, length-map, length-drop}
-use lib.Seq.{length-take-le}
 use Rattle.buffers.specs.Map.{atNames}
 use Rattle.matching.specs.Lists.{All}
 use Rattle.matching.specs.Listed.{Entry, shortList}
 use Rattle.matching.specs.Steps.{Rule, by-leaf, by-ring, by-chain, Step, name}
+use Rattle.matching.proofs.Alls.{all-map}
 use Rattle.matching.proofs.Short.{EntryOf, short-entries}
 use Rattle.matching.proofs.More.{short-more}
-use Rattle.cellfile.specs.Fields.{fields}
 use Rattle.cellfile.specs.Files.{slip as slipLayout, shortList as shortLayout, writeFile, onto, asFields, numberOf}
 use Rattle.cellfile.specs.Files.{nameFields}
 use Rattle.cellfile.specs.Words.{fileOf, nameWord, noEntry, RowsOf, RowsFit}
-use Rattle.cellfile.proofs.Fields.{fields-packed}
+use Rattle.cellfile.proofs.Outputs.{plain-slip, words-length, records-file}
 use Rattle.cellfile.proofs.RoundTrip.{length-file}
 use Rattle.cellfile.proofs.Walk.{from-place}
-use Rattle.buffers.specs.Map.{atNames}
 use Rattle.slots.specs.Slots.{graphOf}
 use Rattle.running.specs.Pairs.{PairsLeft}
 use Rattle.running.proofs.Inserting.{all-place}
 use Rattle.reduction.specs.Writing.{leftFile, takenFile}
 use Rattle.checks.specs.Answering.{Does}
-use Rattle.checks.proofs.Answering.{no-room, all-room}
+use Rattle.checks.proofs.Answering.{no-room, all-room, one-refused, one-written}
 
 -- ---- the short list
 
@@ -64,41 +62,30 @@ module _ {n e r : ℕ} {w1 v1 : List ℕ} (h : PairsLeft n e w1) (q : RowsOf (sh
         )
 
     pub left-refused : (out : List ℕ) → length out < 12 + 8 * r → Does [] ((file, out, out) ∷ []) (12, [])
-    left-refused out l = no-room [] (file, out, out) [] (omega (arith, left-length)) (refl, tt)
+    left-refused out l = one-refused file out left-length l
 
     pub left-written : (out : List ℕ) {out′ : List ℕ} → 12 + 8 * r ≤ length out → out′ ≡ onto file out
         → Does [] ((file, out, out′) ∷ []) (0, (12 + 8 * r) ∷ [])
-    left-written out {out′} l w =
-        rw left-length (all-room ((file, out, out′) ∷ []) (omega (arith, left-length), tt) (w, tt))
+    left-written out l w = one-written file out left-length l w
 
 -- ---- the slip
 
 taken-length : (n : ℕ) {steps : ℕ} (w2 : List ℕ) → steps ≤ 1024 → 8192 ≤ length w2
     → 4 + 2 * steps ≡ length (takenFile n steps w2)
 taken-length n {steps} w2 l r =
-    let ws = take steps (drop atNames w2) in
-    omega (
-      arith,
-      length-file slipLayout (fileOf slipLayout n [] ws),
-      length-map ws (fields (slipLayout .entry)),
-      length-take-le steps (drop atNames w2) (omega (arith, length-drop atNames w2)),
-    )
+    words-length plain-slip n steps (drop atNames w2) (omega (arith, length-drop atNames w2))
 
 number-fits : (r : Rule) → numberOf r < 64
 number-fits by-leaf = omega arith
 number-fits by-ring = omega arith
 number-fits by-chain = omega arith
 
-pub slip-file : (n : ℕ) (ss : List Step) → All (λ (s : Step). name s .1 < 1024) ss
-    → fileOf slipLayout n [] (map nameWord ss) ≡ record { cells = n; extra = []; entries = map nameFields ss }
-slip-file n ss h = ap (λ rs. record { cells = n; extra = []; entries = rs }) (again ss h)
-  where
-    again : (ss : List Step) → All (λ (s : Step). name s .1 < 1024) ss
-        → map (fields (slipLayout .entry)) (map nameWord ss) ≡ map nameFields ss
-    again [] h = refl
-    again (s ∷ ss) h =
-        ap₂ (λ r rs. r ∷ rs)
-        (fields-packed (slipLayout .entry) (nameFields s) (number-fits (name s .0), (h .0, tt))) (again ss (h .1))
+pub slip-file : (n steps : ℕ) (w2 : List ℕ) (ss : List Step) → take steps (drop atNames w2) ≡ map nameWord ss
+    → All (λ (s : Step). name s .1 < 1024) ss
+    → takenFile n steps w2 ≡ writeFile slipLayout (record { cells = n; extra = []; entries = map nameFields ss })
+slip-file n steps w2 ss e h =
+    records-file slipLayout n steps (drop atNames w2) nameFields ss e
+    (all-map (λ (s : Step) l. (number-fits (name s .0), (l, tt))) ss h)
 
 -- ---- both files
 

@@ -13,7 +13,6 @@ use Rattle.matching.proofs.Reduce.{reduce-replay}
 use Rattle.cellfile.specs.Files.{slip as slipLayout, cellsOf, writeFile, nameFields}
 use Rattle.checks.specs.Refusals.{first, lists, listRows}
 use Rattle.cellfile.specs.Answers.{Answer}
-use Rattle.cellfile.specs.Words.{fileOf}
 use Rattle.slots.specs.Slots.{graphOf}
 use Rattle.slots.proofs.Holding.{holds-room}
 use Rattle.starting.specs.Steps.{graphIn, reduceSteps}
@@ -59,8 +58,7 @@ module _ (list : List ℕ) {n slots trail points steps : ℕ} {w1′ w2′ : Lis
 
   slip-same : takenFile n steps w2′ ≡ slipFile list ss
   slip-same =
-      ap (λ (ws : List ℕ). writeFile slipLayout (fileOf slipLayout n [] ws)) (reduce-after .names)
-      ∙ ap (writeFile slipLayout) (slip-file n ss (steps-below list (d .accepted) (map name ss) ss allowed))
+      slip-file n steps w2′ ss (reduce-after .names) (steps-below list (d .accepted) (map name ss) ss allowed)
       ∙ ap (λ (i : ℕ). writeFile slipLayout (record { cells = i; extra = []; entries = map nameFields ss }))
       (d .cells)
 

@@ -2,12 +2,12 @@
 -- proofs/Ends, proofs/Replaying and proofs/Reducing.
 use mathlib.Core.List.{List, [], _∷_, map}
 use Prim.Native.Nat.{ℕ}
-use lib.ListN.{take, drop}
+use lib.ListN.{drop}
 use Rattle.buffers.specs.Map.{atNames}
 use Rattle.matching.specs.Pairs.{Points}
 use Rattle.matching.specs.Listed.{shortList}
 use Rattle.cellfile.specs.Files.{slip as slipLayout, shortList as shortLayout, writeFile, asFields}
-use Rattle.cellfile.specs.Words.{fileOf}
+use Rattle.cellfile.specs.Words.{wordsFile}
 use Rattle.buffers.specs.Map.{atNames}
 
 -- The short list of a graph, and the slip whose steps are the names in the second work buffer.
@@ -19,4 +19,4 @@ leftFile n points w = writeFile shortLayout (record {
 })
 
 abbrev pub takenFile : ℕ → ℕ → List ℕ → List ℕ
-takenFile n steps w2 = writeFile slipLayout (fileOf slipLayout n [] (take steps (drop atNames w2)))
+takenFile n steps w2 = wordsFile slipLayout n steps (drop atNames w2)

@@ -11,13 +11,13 @@ use Prim.Native.Nat.{ℕ, zero, suc, _+_, _≤_, _<_}
 use native.Mathlib.Omega.{arith}
 use lib.Dec.{ltb}
 use lib.ListN.{length}
-use Rattle.matching.specs.Lists.{All, mem}
+use Rattle.matching.specs.Lists.{All, mem, Ascends}
 use Rattle.matching.specs.Pairs.{Pair, Points, sum, Each}
 use Rattle.matching.specs.Listed.{filed}
 use Rattle.matching.specs.Pairing.{Heaviest, First}
 use Rattle.matching.specs.Graph.{Graph, partners, degree}
 use Rattle.matching.specs.Solve.{less, tries, solve, withPairs, solution}
-use Rattle.matching.proofs.Alls.{Ascends, all-map, all-append, ascends-append}
+use Rattle.matching.proofs.Alls.{all-map, all-append, ascends-append}
 use Rattle.matching.proofs.Sums.{each-map}
 use Rattle.matching.proofs.Solve.{less-all, less-ascends}
 use Rattle.matching.proofs.Filed.{InOrder, filed-filed}

@@ -7,7 +7,7 @@ use mathlib.Core.Logic.{⊎-elim}
 use mathlib.Core.List.{_∷_, []}
 use Rattle.cellfile.specs.Files.{cellsOf, countOf, key}
 use Rattle.checks.specs.Refusals.{first, strayEntry, strayPair, unordered}
-use Rattle.checks.proofs.Forms.{straysFrom, stray-start, stray-end, stray-here, stray-next, stray-high}
+use Rattle.checks.proofs.Forms.{straysFrom, stray-start, some-end, some-here, some-next, stray-high}
 use Rattle.checks.proofs.Forms.{stray-turned, stray-not, orderRow, order-start, order-end, order-not, order-next}
 use Rattle.checks.proofs.Forms.{entries-5, entries-6}
 use borrow.Author.Needs.{needs}
@@ -53,13 +53,13 @@ returns : tie.Need-returns Inv-loop μ-loop
 returns c =
     let g = c .before .before in
     entries-5 _ (g .before .before .loop .inv .2
-    ∙ stray-here _ _ (below (g .before)) _ (g .list-entry .ensures) (of-list g (stray-high _ _ _ (c .if1 .taken))))
+    ∙ some-here _ _ (below (g .before)) _ (g .list-entry .ensures) _ (of-list g (stray-high _ _ _ (c .if1 .taken))))
 
 returns-2 : tie.Need-returns-2 Inv-loop μ-loop
 returns-2 c =
     let g = c .before .before .before .before in
     entries-5 _ (g .before .before .loop .inv .2
-    ∙ stray-here _ _ (below (g .before)) _ (g .list-entry .ensures)
+    ∙ some-here _ _ (below (g .before)) _ (g .list-entry .ensures) _
     (of-list g (stray-turned _ _ _ (c .before .before .if1 .left) (c .if2 .taken))))
 
 mul-key : tie.Need-mul-key Inv-loop μ-loop
@@ -100,7 +100,7 @@ loop-again c =
       omega arith,
       omega (arith, g .list-entry .ensures .a-fits, g .list-entry .ensures .b-fits),
       g .before .before .loop .inv .2
-          ∙ stray-next _ _ (below (g .before)) _ (g .list-entry .ensures)
+          ∙ some-next _ _ (below (g .before)) _ (g .list-entry .ensures) _
           (of-list g (stray-not _ _ _ (h .before .before .if1 .left) (h .if2 .left))),
       g .before .before .loop .inv .3 ∙ row-on c,
     )
@@ -111,7 +111,7 @@ returns-3 c =
     let s = start .args .list .now in
     let i = c .before .loop .i in
     let l : countOf s ≤ i = omega (arith, start .pre .0 .count, c .loop-test .left) in
-    entries-6 _ (c .before .loop .inv .2 ∙ stray-end s i l)
+    entries-6 _ (c .before .loop .inv .2 ∙ some-end s i l _)
     (c .before .loop .inv .3 ∙ order-end s i l _ _)
 
 pub check-entries-spec : {M : Type 1} → statement M

@@ -16,12 +16,12 @@ header-at-requires c κs = search needs
 returns-2 : tie.Need-returns-2
 returns-2 c =
     let g = c .before .before in
-    kind-wrong _ _ (g .header-at .ensures) (g .before .if1 .left) (c .if2 .taken)
+    kind-wrong _ _ (g .header-at .ensures) _ (g .before .if1 .left) (c .if2 .taken)
 
 returns-3 : tie.Need-returns-3
 returns-3 c =
     let g = c .before .before .before in
-    kind-right _ _ (g .header-at .ensures) (g .before .if1 .left) (c .before .if2 .left)
+    kind-right _ _ (g .header-at .ensures) _ (g .before .if1 .left) (c .before .if2 .left)
 
 pub not-a-list-spec : {M : Type 1} → statement M
 not-a-list-spec = tie.close (tie.spec returns header-at-requires returns-2 returns-3)
