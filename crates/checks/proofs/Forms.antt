@@ -1,7 +1,7 @@
 -- Laws of the conditions of 2 to 6 and 13, as the functions that check a list's form meet them: what a test that was
 -- passed or not says of the condition, and of the first row that holds.
 use Prim.Native.Nat.{ℕ, _+_, _<_, _≤_}
-use mathlib.Core.Path.{_≡_, refl, sym, ap, _∙_}
+use mathlib.Core.Path.{_≡_, refl, sym, _∙_}
 use mathlib.Core.Logic.{_≢_}
 use mathlib.Core.Bool.{Bool, true, false, not, cond, _||_, or-false}
 use mathlib.Core.List.{List, [], _∷_, map}
@@ -10,8 +10,6 @@ use native.Mathlib.Numerals.{add-one}
 use lib.Dec.{eqb, ltb, leb}
 use lib.ListN.{length, drop, drop-of-length-le}
 use borrow.Author.Tests.{lt-ltb, le-ltb, le-leb, lt-leb, eq-eqb, ne-eqb}
-use Rattle.matching.specs.Lists.{any}
-use Rattle.matching.specs.Listed.{Entry as ListEntry}
 use Rattle.cellfile.specs.Files.{cellsOf, countOf, key, entryKey, fileLength, rawList, listLayout, entriesAll}
 use Rattle.checks.specs.Refusals.{Row, ascendingFrom, first, fewWords, lists, listRows, notAList, tooLarge}
 use Rattle.checks.specs.Refusals.{wrongLength, strayPair, strayEntry, unordered, loosePair, badRaw}

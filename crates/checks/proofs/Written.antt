@@ -10,7 +10,7 @@ use mathlib.Core.Logic.{inl, inr, _≢_}
 use mathlib.Core.Bool.{true, false, not}
 use mathlib.Core.List.{List, [], _∷_, _++_, map}
 use native.Mathlib.Omega.{arith}
-use borrow.Author.Tests.{le-ltb, eq-eqb, le-leb, lt-leb}
+use borrow.Author.Tests.{le-ltb, eq-eqb, le-leb}
 use lib.ListN.{length, getD, length-map}
 use Rattle.matching.specs.Lists.{All, any}
 use Rattle.matching.specs.Pairs.{Pair, Each}
@@ -34,7 +34,7 @@ use Rattle.cellfile.proofs.Lists.{layout-store, layout-raw}
 use Rattle.cellfile.proofs.RoundTrip.{read-write, length-file}
 use Rattle.checks.proofs.Rows.{any-fails, first-none}
 use Rattle.checks.proofs.Layers.{first-passed}
-use Rattle.checks.proofs.Forms.{raw-entries, loose-not}
+use Rattle.checks.proofs.Forms.{stray-not, raw-entries, loose-not}
 use Rattle.checks.proofs.Accepted.{all-with}
 
 -- ---- the header
@@ -89,13 +89,10 @@ keys-ascend n low (e ∷ es) le h p =
     (keys-ascend n (suc (key (e .0) (e .1))) es le (h .1 .1)
     (all-map (λ (f : Entry) b. omega (arith, key-before e f (omega (arith, h .0 .1)) b)) es (h .1 .0)))
 
-not-stray : (n a b : ℕ) → a < b → b < n → strayPair n a b ≡ false
-not-stray n a b l k = rw (lt-leb n a (omega arith), lt-leb n b k, lt-leb b a l)
-
 none-stray : (n : ℕ) (es : List Entry) → Accepted n es
     → any (λ (e : Entry). strayPair n (e .0) (e .1)) es ≡ false
 none-stray n [] h = refl
-none-stray n (e ∷ es) h = rw (not-stray n (e .0) (e .1) (h .0 .0) (h .0 .1), none-stray n es (h .1 .1))
+none-stray n (e ∷ es) h = rw (stray-not n (e .0) (e .1) (h .0 .1) (h .0 .0), none-stray n es (h .1 .1))
 
 entries-again : (es : List Entry) → map asEntry (map asFields es) ≡ es
 entries-again [] = refl
@@ -249,7 +246,7 @@ module _ (f : File) (fits : FitsFile slip f) where
 
 no-bad : (n : ℕ) (m : List Pair) → Each (λ a b. (a < b) × (b < n)) m → any (badPair n) (map pairFields m) ≡ false
 no-bad n [] h = refl
-no-bad n (e ∷ m) h = rw (not-stray n (e .0) (e .1) (h .0 .0) (h .0 .1), no-bad n m (h .1))
+no-bad n (e ∷ m) h = rw (stray-not n (e .0) (e .1) (h .0 .1) (h .0 .0), no-bad n m (h .1))
 
 ascending : (low : ℕ) (m : List Pair) → InOrder m → Each (λ a b. low ≤ a) m
     → ascendingFrom low (map (λ (r : List ℕ). getD r 0 0) (map pairFields m)) ≡ true

@@ -5,9 +5,9 @@ use mathlib.Core.List.{List, [], _∷_, _++_, map}
 use Prim.Native.Nat.{ℕ, _≤_}
 use lib.ListN.{length}
 use Rattle.matching.specs.Lists.{All}
-use Rattle.checks.specs.Refusals.{Row, first}
+use Rattle.checks.specs.Refusals.{Row}
 use Rattle.checks.specs.Calls.{filing}
-use Rattle.cellfile.specs.Answers.{Answer, answer, written}
+use Rattle.cellfile.specs.Answers.{Answer, written}
 
 -- An output of a call: the file that is for it, what it held before, and what it holds afterwards.
 abbrev pub Output : Type 0

@@ -16,7 +16,7 @@ use Rattle.matching.proofs.Alls.{all-map}
 use Rattle.cellfile.specs.Files.{rawList, kindOf, cellsOf, entriesAll}
 use Rattle.cellfile.specs.Fits.{AreBytes}
 use Rattle.cellfile.proofs.Lists.{view-all}
-use Rattle.checks.specs.Refusals.{Row, fewWords, lists, notAList, shortOutput, badRaw}
+use Rattle.checks.specs.Refusals.{fewWords, lists, notAList, shortOutput, badRaw}
 use Rattle.checks.specs.Calls.{roomRow}
 use Rattle.checks.proofs.Rows.{bad-raw-none}
 use Rattle.checks.proofs.Layers.{rows-pass, rows-sound, row-refused}
@@ -27,7 +27,7 @@ use Rattle.tidying.proofs.Accepted.{turned-cells, tidy-accepted, tidy-cells, ti
 use Rattle.tidying.proofs.Again.{again}
 use Rattle.tidying.proofs.Last.{tidied-joining}
 use Rattle.view.specs.Serving.{serving}
-use Rattle.claims.specs.Demand.{AcceptedList, storeOf, Writes}
+use Rattle.claims.specs.Demand.{AcceptedList, Writes}
 use Rattle.claims.specs.Tidied.{TakenRaw, TidyTells, AreRuns, RunsClaim, TidyClaim, AgainClaim, Elsewhere}
 use Rattle.claims.proofs.Demand.{withRoom, room-enough}
 use Rattle.claims.proofs.Answers.{wrote}

@@ -9,8 +9,7 @@ use Prim.Native.Nat.{ℕ, _≤_, _<_}
 use lib.ListN.{length}
 use Rattle.matching.specs.Lists.{All}
 use Rattle.matching.specs.Listed.{Entry}
-use Rattle.cellfile.specs.Files.{rawList, largest, kindOf, cellsOf, entriesAll, rawFile}
-use Rattle.cellfile.specs.Answers.{Answer}
+use Rattle.cellfile.specs.Files.{rawList, largest, cellsOf, entriesAll, rawFile}
 use Rattle.checks.specs.Refusals.{fewWords, badRaw}
 use Rattle.tidying.specs.Calls.{lowFirst, tidyFile, tidying}
 use Rattle.tidying.specs.Said.{lastOf, joining, asRaw}

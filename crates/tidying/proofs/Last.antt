@@ -1,7 +1,7 @@
 -- The entries written that join two cells are the last of those of the raw list that do, lower cell first
 -- (`tidied-joining`). In order: the last of some; elements in the order of their keys, of which those that pass a test
 -- have one key (`passing-sorted`); entries with their lower cell first; the law. Assumes nothing.
-use mathlib.Core.Path.{_≡_, refl, sym, ap, _∙_}
+use mathlib.Core.Path.{_≡_, refl, ap, _∙_}
 use mathlib.Core.Logic.{inl, inr}
 use mathlib.Core.Bool.{Bool, true, false, cond, or-comm, _&&_}
 use mathlib.Core.List.{List, [], _∷_, map}

@@ -63,7 +63,8 @@ fn write_tidied(raw: &[u8], w1: &mut [u64], w2: &mut [u64], store: &mut [u8]) ->
 {
     let h = decode::header_at(raw);
     let n = h.n;
-    let k = order(raw, h.m, w1, w2);
+    let m = h.m;
+    let k = order(raw, m, w1, w2);
     let size = format::HEADER_BYTES + format::ENTRY_BYTES * k;
     if store.len() < size {
         return Lengths::Refused(12);

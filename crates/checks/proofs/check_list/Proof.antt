@@ -1,5 +1,5 @@
 -- `check_list` answers the first of refusals 2 to 4, or else of 5 and 6.
-use mathlib.Core.Path.{_≡_, sym, ap, _∙_}
+use mathlib.Core.Path.{_≡_, ap, _∙_}
 use mathlib.Core.List.{[]}
 use Rattle.checks.specs.Refusals.{first, lists}
 use Rattle.checks.specs.Loops.{headRows, entryRows}
