@@ -1,7 +1,7 @@
 -- How a call with outputs answers: refusal 12 is its last row. Inner contracts cite this; laws: proofs/Answering.
 use mathlib.Core.Path.{_≡_}
 use mathlib.Core.Bool.{Bool, false}
-use mathlib.Core.List.{List, [], _∷_, _++_, map}
+use mathlib.Core.List.{List, map}
 use Prim.Native.Nat.{ℕ, _≤_}
 use lib.ListN.{length}
 use Rattle.matching.specs.Lists.{All}

@@ -3,7 +3,6 @@
 -- output's room (`tidy-refused`, `tidy-written`); refusals 1 and 13 (`tidy-one`, `tidy-thirteen`, `tidy-passed`).
 -- Assumes nothing.
 use mathlib.Core.Path.{_≡_, refl, sym, ap, _∙_}
-use mathlib.Core.Logic.{_≢_}
 use mathlib.Core.Bool.{Bool, true, false}
 use mathlib.Core.List.{List, [], _∷_, _++_, map, map-map, append-nil}
 use Prim.Native.Nat.{ℕ, _+_, _*_, _-_, _≤_, _<_}

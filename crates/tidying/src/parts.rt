@@ -16,7 +16,7 @@ ghost use Rattle.cellfile.specs.Words.{storeWord};
 ghost use Rattle.checks.specs.Calls.{answered};
 ghost use Rattle.checks.specs.Loops.{WholeFile};
 ghost use Rattle.checks.specs.Answering.{Does, Enough};
-ghost use Rattle.tidying.specs.Calls.{lowFirst, tidied, tidyFile, tidyRows};
+ghost use Rattle.tidying.specs.Calls.{tidied, tidyFile, tidyRows};
 ghost use Rattle.tidying.specs.Words.{rawWord, RawThere};
 
 // The word of an entry, its lower cell first.
