@@ -46,8 +46,9 @@ uint32_t cells_reduce(const uint8_t *list, size_t list_len,
                       uint64_t *short_len);
 
 /* Solves what a slip (kind 3) leaves of a store list: writes a heaviest pairing (kind 4) of the pairs left, of
- * *pairing_len bytes. Refusals: 1, 2 to 6, 7, 8 (the slip), 11 (more than 12 cells have pairs left),
- * 12 (the output is shorter than its file). */
+ * *pairing_len bytes; of equals, at the lowest cell whose partner differs, unpaired comes first, then the lower
+ * partner. Refusals: 1, 2 to 6, 7, 8 (the slip), 11 (more than 12 cells have pairs left), 12 (the output is shorter
+ * than its file). */
 uint32_t cells_solve(const uint8_t *list, size_t list_len,
                      const uint8_t *slip, size_t slip_len,
                      uint64_t *work_a, size_t work_a_len,
@@ -58,8 +59,10 @@ uint32_t cells_solve(const uint8_t *list, size_t list_len,
 /* Lifts a pairing (kind 4) of what a slip leaves to the store list: writes a pairing of the list, of *lifted_len
  * bytes, and its origin list (kind 5), of *origins_len bytes: the same pairs in the same order, each with the step of
  * the slip whose undoing last put it in, counted from 1, and that step's rule; both are 0 for a pair of the given
- * pairing that was never replaced. Refusals: 1, 2 to 6, 7, 8 (the slip), 9 (the pairing's form), 10 (a cell twice, or
- * a pair that the slip does not leave), 12 (an output is shorter than its file: neither is written). */
+ * pairing that was never replaced. Where two heaviest pairings of a chain or ring are equal, the one is put in that
+ * takes the pair at the first difference in reading order. Refusals: 1, 2 to 6, 7, 8 (the slip), 9 (the pairing's
+ * form), 10 (a cell twice, or a pair that the slip does not leave), 12 (an output is shorter than its file: neither is
+ * written). */
 uint32_t cells_lift(const uint8_t *list, size_t list_len,
                     const uint8_t *slip, size_t slip_len,
                     const uint8_t *pairing, size_t pairing_len,

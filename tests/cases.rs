@@ -2,7 +2,7 @@
 //! comparison which never met it fails.
 
 use crate::graph::{heaviest_of_path, heaviest_of_ring, Graph, Step, CHAIN, LEAF, RING};
-use crate::lifting::{self, Held, Lifted, Origin, Taken};
+use crate::lifting::{self, Held, Lifted, Origin, Taken, Tie};
 use crate::reference::{Answer, Input, Pair, MOST_CELLS, MOST_SOLVED, WORK_WORDS};
 
 /// Cases of every call, of what is lent.
@@ -478,7 +478,7 @@ fn of_chain_undone(taken: &Taken, held: &Held, [u, v]: [u64; 2], z: u64) -> Vec<
 // Whether a path has several heaviest pairings: some pair that its best leaves
 // out can be taken without loss.
 fn several_best_of_path(row: &lifting::Row) -> bool {
-    let best = lifting::best_of_path(row);
+    let best = lifting::best_of_path(Tie::Near, row);
     let points: Vec<u64> = row.iter().map(|&(_, points)| points).collect();
     let whole = heaviest_of_path(&points);
     let taken = |place: usize| {
@@ -491,7 +491,7 @@ fn several_best_of_path(row: &lifting::Row) -> bool {
 
 // Whether a ring has several heaviest pairings.
 fn several_best_of_ring(row: &lifting::Row) -> bool {
-    let best = lifting::best_of_ring(row);
+    let best = lifting::best_of_ring(Tie::Near, row);
     let mut points: Vec<u64> = row.iter().map(|&(_, points)| points).collect();
     let whole = heaviest_of_ring(&points);
     for (pair, _) in row {
@@ -517,7 +517,7 @@ fn of_pairs_undone(place: usize, taken: &Taken, lifted: &mut Lifted) -> Vec<&'st
     };
     let held = made.into_iter().filter(|&(a, b)| lifted.held.holds(a, b));
     let before: Vec<(Pair, Origin)> = held.map(|pair| (pair, lifted.origin(pair))).collect();
-    let put = lifted.undo(place, taken);
+    let put = lifted.undo(Tie::Near, place, taken);
     let fate = |&((a, b), origin): &(Pair, Origin)| {
         let is_short = origin == Origin::Short;
         match (put.contains(&(a, b)), lifted.held.holds(a, b)) {

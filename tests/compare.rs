@@ -27,6 +27,7 @@ mod lift;
 mod liftcheck;
 mod lifting;
 mod lifting_rows;
+mod nearend;
 mod pair;
 mod pairings;
 mod raws;
@@ -126,6 +127,7 @@ fn main() {
     let tidy_end = entries_end + tidy_calls;
     short.extend(compare_writing::<tidy::Tidy>(seed, entries_end..tidy_end));
     tidy::run_others(seed);
+    short.extend(nearend::run());
     for line in &short {
         println!("{line}");
     }

@@ -8,7 +8,7 @@ use std::collections::{BTreeMap, BTreeSet};
 
 use crate::graph::{self, Graph, Named, Step, LEAF, RING};
 use crate::inputs::{Form, Random};
-use crate::lifting::{self, Held, Lifted, Taken};
+use crate::lifting::{self, Held, Lifted, Taken, Tie};
 use crate::lifting_rows;
 use crate::pairings;
 use crate::reference::{self, Input, Pair};
@@ -109,7 +109,7 @@ fn literal_solve(pairs: &Pairs) -> Pairing {
 }
 
 // The best of a row, given by its cells in reading order: of the heaviest, at the
-// first pair in reading order where two differ, the one that leaves it out.
+// first pair in reading order where two differ, the one that takes it.
 fn literal_best(pairs: &Pairs, cells: &[u64]) -> Pairing {
     let reading: Vec<Pair> = cells
         .windows(2)
@@ -121,7 +121,7 @@ fn literal_best(pairs: &Pairs, cells: &[u64]) -> Pairing {
         taken.collect()
     };
     let heaviest = heaviest_pairings(&row).into_iter();
-    heaviest.min_by_key(taken).unwrap_or_default()
+    heaviest.max_by_key(taken).unwrap_or_default()
 }
 
 // The cells of a ring or chain in reading order, by the name of its step: found
@@ -365,7 +365,7 @@ fn check_all_slips(store: &Store, graph: &Graph, way: &mut Way, carried: u64) ->
         format!("{pairs:?}: a point is gained or lost")
     });
     for held in &all {
-        let lifted = lifting::lift(&way.taken, Held::new(held.iter().copied()));
+        let lifted = lifting::lift(Tie::Near, &way.taken, Held::new(held.iter().copied()));
         let points = points_of(held, &pairs).unwrap_or(0);
         let origins = origins_of(&lifted);
         let lifted = set_of(&lifted.held);
@@ -403,7 +403,7 @@ fn check_undo(literal: &Literal, taken: &Taken, after: &Pairs) {
     let (before, named) = (&literal.before, literal.named);
     for held in all_pairings(after) {
         let mut undone = Held::new(held.iter().copied());
-        let put: Pairing = taken.undo(&mut undone).into_iter().collect();
+        let put: Pairing = taken.undo(Tie::Near, &mut undone).into_iter().collect();
         let change = literal.undo(&held);
         let back = change.of(&held);
         expect(set_of(&undone) == back && put == change.put, || {

@@ -150,28 +150,73 @@ fn from(row: &Row, place: usize) -> &Row {
     row.get(place..).unwrap_or(&[])
 }
 
-/// The best of a path: a pair is taken only where that gives more than leaving it out.
-pub fn best_of_path(row: &Row) -> Vec<Pair> {
+/// Which of equal pairings of a row is its best: the one that takes the pair at
+/// the first difference, or the one that leaves it out.
+#[derive(Clone, Copy)]
+pub enum Tie {
+    Near,
+    /// The tie before the near end was asked for; only the test of the tie has it.
+    Far,
+}
+
+impl Tie {
+    // Whether a pair is taken, by the points with it and without it.
+    fn takes(self, with: u64, without: u64) -> bool {
+        match self {
+            Tie::Near => with >= without,
+            Tie::Far => with > without,
+        }
+    }
+}
+
+/// The best of a path: a pair is left out only where that gives more than taking
+/// it, or, by the other tie, where it gives as much.
+pub fn best_of_path(tie: Tie, row: &Row) -> Vec<Pair> {
     let Some(&(pair, points)) = row.first() else {
         return Vec::new();
     };
     let (without, beside) = (from(row, 1), from(row, 2));
-    if points + heaviest(beside) > heaviest(without) {
-        [vec![pair], best_of_path(beside)].concat()
+    if tie.takes(points + heaviest(beside), heaviest(without)) {
+        [vec![pair], best_of_path(tie, beside)].concat()
     } else {
-        best_of_path(without)
+        best_of_path(tie, without)
     }
 }
 
-/// The best of a ring: its first pair is taken only where that gives more than
-/// leaving it out. What is left is a path in either case.
-pub fn best_of_ring(row: &Row) -> Vec<Pair> {
+/// The best of a ring, decided by its first pair in the same way. What is left is
+/// a path in either case.
+pub fn best_of_ring(tie: Tie, row: &Row) -> Vec<Pair> {
     let (pair, points) = row[0];
     let (without, beside) = (&row[1..], &row[2..row.len() - 1]);
-    if points + heaviest(beside) > heaviest(without) {
-        [vec![pair], best_of_path(beside)].concat()
+    if tie.takes(points + heaviest(beside), heaviest(without)) {
+        [vec![pair], best_of_path(tie, beside)].concat()
     } else {
-        best_of_path(without)
+        best_of_path(tie, without)
+    }
+}
+
+/// What the way back puts in the best of: C or C less u of a ring, P, P less u,
+/// P less v or Q of a chain.
+pub struct Part<'a> {
+    pub name: &'static str,
+    pub row: &'a Row,
+}
+
+impl<'a> Part<'a> {
+    /// The names of all parts. Only C is a ring.
+    pub const NAMES: [&'static str; 6] = ["C", "C less u", "P", "P less u", "P less v", "Q"];
+
+    // A part of a row.
+    fn new(name: &'static str, row: &'a Row) -> Part<'a> {
+        Part { name, row }
+    }
+
+    /// The best of it.
+    pub fn best(&self, tie: Tie) -> Vec<Pair> {
+        match self.name {
+            "C" => best_of_ring(tie, self.row),
+            _ => best_of_path(tie, self.row),
+        }
     }
 }
 
@@ -210,24 +255,32 @@ impl Taken {
 
     /// Makes of a pairing of the graph after the step one of the graph before it;
     /// answers the pairs that it puts in, also in place of themselves.
-    pub fn undo(&self, held: &mut Held) -> Vec<Pair> {
-        let z = self.step.named().cell;
-        // Each takes out what is replaced and answers what comes in.
-        let put = match &self.step {
-            Step::Leaf { v, u } => undo_leaf(held, *v, *u),
-            Step::Ring { cells } => self.undo_ring(held, cells[0], z),
-            Step::Chain { cells } => self.undo_chain(held, ends(cells), z),
+    pub fn undo(&self, tie: Tie, held: &mut Held) -> Vec<Pair> {
+        let put = match (&self.step, self.part(held)) {
+            (_, Some(part)) => part.best(tie),
+            (step, None) => undo_leaf(held, step.named().cell, self.ends()[0]),
         };
         held.add_all(put.iter().copied());
         put
     }
 
+    /// Takes out of a pairing what undoing the step replaces, and answers the part
+    /// of its ring or chain whose best comes in; none of a leaf.
+    pub fn part(&self, held: &mut Held) -> Option<Part<'_>> {
+        let z = self.step.named().cell;
+        match &self.step {
+            Step::Leaf { .. } => None,
+            Step::Ring { cells } => Some(self.part_of_ring(held, cells[0], z)),
+            Step::Chain { cells } => Some(self.part_of_chain(held, ends(cells), z)),
+        }
+    }
+
     // If the pair u, z is held, replace it by the best of C, else add the best of C less u.
-    fn undo_ring(&self, held: &mut Held, u: u64, z: u64) -> Vec<Pair> {
+    fn part_of_ring(&self, held: &mut Held, u: u64, z: u64) -> Part<'_> {
         if held.remove(u, z) {
-            best_of_ring(&self.row)
+            Part::new("C", &self.row)
         } else {
-            best_of_path(&self.row[1..self.row.len() - 1])
+            Part::new("C less u", &self.row[1..self.row.len() - 1])
         }
     }
 
@@ -235,19 +288,17 @@ impl Taken {
     // best of P less u. With u, v held and its present points greater than H(P)
     // minus H(Q), keep it and add the best of Q; otherwise replace it by the best
     // of P. With none of the three held, add the best of Q.
-    fn undo_chain(&self, held: &mut Held, [u, v]: [u64; 2], z: u64) -> Vec<Pair> {
+    fn part_of_chain(&self, held: &mut Held, [u, v]: [u64; 2], z: u64) -> Part<'_> {
         let last = self.row.len() - 1;
-        let (p, q) = (&self.row[..], &self.row[1..last]);
-        let (p_less_v, p_less_u) = (&self.row[..last], &self.row[1..]);
         if held.remove(u, z) {
-            best_of_path(p_less_v)
+            Part::new("P less v", &self.row[..last])
         } else if held.remove(v, z) {
-            best_of_path(p_less_u)
+            Part::new("P less u", &self.row[1..])
         } else if held.holds(u, v) && !self.direct_pair_is_heavier() {
             held.remove(u, v);
-            best_of_path(p)
+            Part::new("P", &self.row)
         } else {
-            best_of_path(q)
+            Part::new("Q", &self.row[1..last])
         }
     }
 
@@ -278,10 +329,10 @@ fn undo_leaf(held: &Held, v: u64, u: u64) -> Vec<Pair> {
 }
 
 /// The way back through all the steps, the last first.
-pub fn lift(taken: &[Taken], held: Held) -> Lifted {
+pub fn lift(tie: Tie, taken: &[Taken], held: Held) -> Lifted {
     let mut lifted = Lifted::new(held);
     for (place, step) in taken.iter().enumerate().rev() {
-        lifted.undo(place, step);
+        lifted.undo(tie, place, step);
     }
     lifted
 }
@@ -334,8 +385,8 @@ impl Lifted {
 
     /// Undoes the step at a place of the slip; answers the pairs that it puts in.
     /// They are from this step now, every other pair that is held stays what it was.
-    pub fn undo(&mut self, place: usize, taken: &Taken) -> Vec<Pair> {
-        let put = taken.undo(&mut self.held);
+    pub fn undo(&mut self, tie: Tie, place: usize, taken: &Taken) -> Vec<Pair> {
+        let put = taken.undo(tie, &mut self.held);
         let origin = Origin::of_place(place, taken.step.named());
         for &pair in &put {
             self.origins.insert(pair, origin);

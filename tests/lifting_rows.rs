@@ -91,6 +91,8 @@ const RING_AT_FOUR: &str = "0-4:1, 4-5:5, 4-7:5, 5-6:5, 6-7:5";
 const RING_TO_THREE: &str = "0-3:1, 0-5:1, 2-3:1, 2-5:1";
 /// A chain read 0, 5, 4, 3, 1.
 const CHAIN_FROM_FIVE: &str = "0-5:1, 1-3:1, 3-4:1, 4-5:1";
+/// A chain read 0, 1, 2, 3, 4, 5 whose inner pairs are equal.
+const HEAVY_ENDS: &str = "0-1:2, 1-2:1, 2-3:1, 3-4:1, 4-5:2";
 /// Two chains between 0 and 3, over 1 and 2 and over 4 and 5, and a direct pair that
 /// is heavier than both, or equal to each.
 const TWO_CHAINS: &str = "0-1:10, 0-3:25, 0-4:10, 1-2:1, 2-3:10, 3-5:10, 4-5:1";
@@ -181,10 +183,10 @@ fn solve_rows_of_lists() -> Vec<Row> {
 fn solve_rows_of_ties() -> Vec<Row> {
     vec![
         solved(3, EQUAL_TRIANGLE, "", "1-2"),
+        // Not the tie of a row: that would take 0-1.
         solved(3, "0-1:1, 1-2:1", "", "1-2"),
         solved(3, "0-1:1, 0-2:1", "", "0-1"),
         solved(4, "0-1:4, 1-2:8, 2-3:4", "", "1-2"),
-        // Not the tie of a row: that would leave 0-1 out.
         solved(4, SQUARE, "", "0-1, 2-3"),
         solved(4, &all_pairs(4), "", "0-1, 2-3"),
         solved(5, SINGLE_CELLS, "", "0-2, 1-3"),
@@ -391,17 +393,17 @@ fn lift_rows_of_rings() -> Vec<Row> {
             SQUARE,
             "ring 1, leaf 0",
             "",
-            "0-3 step 1 ring, 1-2 step 1 ring",
+            "0-1 step 1 ring, 2-3 step 1 ring",
         ),
         lifted(
             4,
             SQUARE,
             "ring 1",
             "0-1",
-            "0-3 step 1 ring, 1-2 step 1 ring",
+            "0-1 step 1 ring, 2-3 step 1 ring",
         ),
-        // Of 1-2 and 2-3 the first one read is left out.
-        lifted(4, SQUARE, "ring 1", "", "2-3 step 1 ring"),
+        // Of 1-2 and 2-3 the first one read is taken.
+        lifted(4, SQUARE, "ring 1", "", "1-2 step 1 ring"),
         lifted(3, EQUAL_TRIANGLE, "ring 1", "", "1-2 step 1 ring"),
         lifted(
             7,
@@ -423,25 +425,25 @@ fn lift_rows_of_rings() -> Vec<Row> {
             RING_AT_FOUR,
             "ring 5",
             "4-5",
-            "4-7 step 1 ring, 5-6 step 1 ring",
+            "4-5 step 1 ring, 6-7 step 1 ring",
         ),
         lifted(
             8,
             RING_AT_FOUR,
             "ring 5",
             "0-4",
-            "0-4 short, 6-7 step 1 ring",
+            "0-4 short, 5-6 step 1 ring",
         ),
-        lifted(8, RING_AT_FOUR, "ring 5", "", "6-7 step 1 ring"),
+        lifted(8, RING_AT_FOUR, "ring 5", "", "5-6 step 1 ring"),
         // From u towards 3, which is not z.
         lifted(
             6,
             RING_TO_THREE,
             "ring 2",
             "0-2",
-            "0-5 step 1 ring, 2-3 step 1 ring",
+            "0-3 step 1 ring, 2-5 step 1 ring",
         ),
-        lifted(6, RING_TO_THREE, "ring 2", "", "2-5 step 1 ring"),
+        lifted(6, RING_TO_THREE, "ring 2", "", "2-3 step 1 ring"),
         lifted(8, CHAIN_OF_RINGS, TAKEN_OF_RINGS, "", LIFTED_OF_RINGS),
         lifted(
             8,
@@ -482,13 +484,13 @@ fn lift_rows_of_chains() -> Vec<Row> {
         lifted(4, LOW_INNER, "chain 0", "0-3", "1-3 step 1 chain"),
         lifted(4, LOW_INNER, "chain 0", "", "0-1 step 1 chain"),
         // From the lower end, not from z: 4-5 is read before 3-4.
-        lifted(6, CHAIN_FROM_FIVE, "chain 3", "", "3-4 step 1 chain"),
+        lifted(6, CHAIN_FROM_FIVE, "chain 3", "", "4-5 step 1 chain"),
         lifted(
             6,
             CHAIN_FROM_FIVE,
             "chain 3",
             "0-1",
-            "1-3 step 1 chain, 4-5 step 1 chain",
+            "0-5 step 1 chain, 3-4 step 1 chain",
         ),
         lifted(
             6,
@@ -503,6 +505,21 @@ fn lift_rows_of_chains() -> Vec<Row> {
             "chain 3",
             "1-3",
             "1-3 step 1 chain, 4-5 step 1 chain",
+        ),
+        // Of 2-3 and 3-4 beside 0-1, and of 1-2 and 2-3 beside 4-5, the first one read is taken.
+        lifted(
+            6,
+            HEAVY_ENDS,
+            "chain 1",
+            "0-1",
+            "0-1 step 1 chain, 2-3 step 1 chain",
+        ),
+        lifted(
+            6,
+            HEAVY_ENDS,
+            "chain 1",
+            "1-5",
+            "1-2 step 1 chain, 4-5 step 1 chain",
         ),
         // What the chain made is a ring; that is undone first.
         lifted(4, FIRST, "chain 1, ring 1", "0-1", BOTH_ENDS),
@@ -763,7 +780,7 @@ fn pair_rows_of_lists() -> Vec<Row> {
         paired(3, "0-1:3, 1-2:8", "1-2 step 2 leaf"),
         // Leaf 0 puts 0-1 in, then ring 1 puts it in place of itself.
         paired(3, TRIANGLE, "0-1 step 1 ring"),
-        paired(4, SQUARE, "0-3 step 1 ring, 1-2 step 1 ring"),
+        paired(4, SQUARE, "0-1 step 1 ring, 2-3 step 1 ring"),
         paired(3, EQUAL_TRIANGLE, "1-2 step 1 ring"),
         paired(7, TWO_RINGS, "2-3 step 1 ring, 5-6 step 2 ring"),
         paired(8, CHAIN_OF_RINGS, LIFTED_OF_RINGS),
@@ -771,10 +788,10 @@ fn pair_rows_of_lists() -> Vec<Row> {
         paired(4, LOW_INNER, "0-2 step 1 leaf, 1-3 step 2 leaf"),
         // Leaves 4 and 5, then a ring of which two are best at 19.
         paired(6, HEAVIER, "0-3 step 3 ring, 1-2 step 3 ring"),
-        paired(6, EQUAL, "0-3 step 3 ring, 1-2 step 3 ring"),
+        paired(6, EQUAL, "0-1 step 3 ring, 2-3 step 3 ring"),
         paired(6, LIGHTER, "0-1 step 3 ring, 2-3 step 3 ring"),
-        paired(8, RING_AT_FOUR, "4-7 step 2 ring, 5-6 step 2 ring"),
-        paired(6, RING_TO_THREE, "0-5 step 1 ring, 2-3 step 1 ring"),
+        paired(8, RING_AT_FOUR, "4-5 step 2 ring, 6-7 step 2 ring"),
+        paired(6, RING_TO_THREE, "0-3 step 1 ring, 2-5 step 1 ring"),
         // No step: the tie is that of solve.
         paired(5, SINGLE_CELLS, "0-2 short, 1-3 short"),
         paired(4, &all_pairs(4), "0-1 short, 2-3 short"),

@@ -9,7 +9,7 @@
 use std::collections::{BTreeMap, BTreeSet};
 
 use crate::graph::{self, Graph, Left, Named, CHAIN, LEAF};
-use crate::lifting::{self, Held, Lifted, Origin};
+use crate::lifting::{self, Held, Lifted, Origin, Tie};
 
 pub const WORK_WORDS: usize = 8192;
 pub const MOST_CELLS: u64 = 1024;
@@ -641,7 +641,7 @@ impl Input {
 
     /// The pairing of the list that the way back makes of that of what is left.
     pub fn lifted(&self) -> Lifted {
-        lifting::lift(&self.left.taken, self.short_pairing.clone())
+        lifting::lift(Tie::Near, &self.left.taken, self.short_pairing.clone())
     }
 
     /// The list's working graph.

@@ -44,6 +44,8 @@ const ABOUT_TWELVE: usize = 19;
 const MANY_LEAVES: usize = 20;
 /// Families that often leave pairs which no step takes, or have long rows.
 const LEAVING: [usize; 6] = [11, 12, 15, LONG, ABOUT_TWELVE, ABOUT_TWELVE];
+/// Families of rings and chains.
+const OF_ROWS: [usize; 10] = [3, 4, 5, 6, 7, 8, 11, 12, GROUPS, LONG];
 /// A family of large lists alone is taken once in so many times that it comes up.
 const LARGE_ONCE_IN: u64 = 2;
 
@@ -360,15 +362,28 @@ pub fn list_to_lift(random: &mut Random) -> (&'static str, Form) {
     };
     let (name, mut list) = list_of_family(random, family);
     if random.once_in(3) {
-        let least = random.one_of(&[0, 1, 1, 1, 4]);
-        let most = least + random.one_of(&[1, 1, 2, 3]);
-        let entries = list.entries.iter_mut().filter(|entry| entry[2] > 0);
-        entries.for_each(|entry| entry[2] = random.between(least, most));
+        give_few_points(random, &mut list);
     }
     if random.once_in(3) {
         put_direct_pair(random, &mut list);
     }
     (name, list)
+}
+
+/// A valid list of rings and chains with many equal points.
+pub fn list_of_equals(random: &mut Random) -> Form {
+    let family = OF_ROWS[random.place(OF_ROWS.len())];
+    let (_, mut list) = list_of_family(random, family);
+    give_few_points(random, &mut list);
+    list
+}
+
+// Gives the entries above zero points two to four different numbers of points.
+fn give_few_points(random: &mut Random, list: &mut Form) {
+    let least = random.one_of(&[0, 1, 1, 1, 4]);
+    let most = least + random.one_of(&[1, 1, 2, 3]);
+    let entries = list.entries.iter_mut().filter(|entry| entry[2] > 0);
+    entries.for_each(|entry| entry[2] = random.between(least, most));
 }
 
 // Gives the ends of a chain a direct pair: of zero points, or about as heavy as the chain.

@@ -13,11 +13,11 @@ use crate::raws;
 use crate::reduce::Reduce;
 use crate::reference::{self, Answer, Input, RAW_LIST_FAULTS, WORK_WORDS};
 use crate::replay::Replay;
-use crate::rows::{self, Row, PLENTY};
+use crate::rows::{self, Row};
 use crate::solve::Solve;
 use crate::tidy_rows;
 use crate::weigh;
-use crate::writing::Call;
+use crate::writing::{answer_of, Call};
 
 /// Cases of accepted calls.
 const OF_TIDY: [&str; 11] = [
@@ -176,7 +176,7 @@ pub fn run_others(seed: u64) {
     let mut random = Random::new(seed);
     for _ in 0..LISTS_FOR_OTHERS {
         let (family, raw) = raws::valid_list(&mut random);
-        let (number, store) = answer_of::<Tidy>(&mut random, &[&raw.bytes()]);
+        let (number, [store, _]) = answer_of::<Tidy>(&mut random, &[&raw.bytes()]);
         let refusing = match number {
             0 => calls_refusing(&mut random, raw.n, &store),
             _ => vec![Tidy::NAME],
@@ -197,7 +197,7 @@ pub fn run_others(seed: u64) {
 fn calls_refusing(random: &mut Random, n: u64, store: &[u8]) -> Vec<&'static str> {
     let slip = Form::slip(n, Vec::new()).bytes();
     let pairing = Form::pairing(n, Vec::new()).bytes();
-    let (tidy, again) = answer_of::<Tidy>(random, &[&rows::of_raw_kind(store)]);
+    let (tidy, [again, _]) = answer_of::<Tidy>(random, &[&rows::of_raw_kind(store)]);
     let answers = [
         (Tidy::NAME, tidy.max(u32::from(again != store))),
         ("weigh", weigh_answer(random, store, &pairing)),
@@ -224,17 +224,4 @@ fn weigh_answer(random: &mut Random, store: &[u8], pairing: &[u8]) -> u32 {
     let mut points = 1;
     let number = weigh::call_weigh(store, pairing, work_a, work_b, &mut points);
     number.max(u32::from(points != 0))
-}
-
-// What a call answers on these files, with enough lent, and the first file it writes.
-fn answer_of<C: Call>(random: &mut Random, files: &[&[u8]]) -> (u32, Vec<u8>) {
-    let files = Files::new(random, files);
-    let mut work = Work::new(random, [WORK_WORDS; 2]);
-    let mut outputs = [vec![0; PLENTY], vec![0; PLENTY]];
-    let mut lengths = [0; 5];
-    let lent = outputs.iter_mut().map(Vec::as_mut_slice).collect();
-    let number = C::call(&files, work.buffers(), lent, &mut lengths);
-    let [mut written, _] = outputs;
-    written.truncate(lengths[1] as usize);
-    (number, written)
 }

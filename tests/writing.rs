@@ -10,8 +10,8 @@ use crate::cases;
 use crate::counts::{Counts, Tally};
 use crate::inputs::Random;
 use crate::lent::{self, Files, Outputs, Work};
-use crate::reference::{Answer, Input};
-use crate::rows::Row;
+use crate::reference::{Answer, Input, WORK_WORDS};
+use crate::rows::{Row, PLENTY};
 use crate::shapes;
 
 /// A call that writes files.
@@ -253,6 +253,21 @@ impl<C: Call> Comparison<C> {
             .map(|line| format!("{}: {line}", C::NAME))
             .collect()
     }
+}
+
+/// What a call answers on these files, with enough lent, and the files it writes; of
+/// a call that writes one file the second is empty.
+pub fn answer_of<C: Call>(random: &mut Random, files: &[&[u8]]) -> (u32, [Vec<u8>; 2]) {
+    let files = Files::new(random, files);
+    let mut work = Work::new(random, [WORK_WORDS; 2]);
+    let mut written = [vec![0; PLENTY], vec![0; PLENTY]];
+    let mut lengths = [0; 5];
+    let lent = written.iter_mut().map(Vec::as_mut_slice).collect();
+    let number = C::call(&files, work.buffers(), lent, &mut lengths);
+    for (file, place) in written.iter_mut().zip([1, 3]) {
+        file.truncate(lengths[place] as usize);
+    }
+    (number, written)
 }
 
 // Prints a call that went wrong, whole, and ends the comparison.

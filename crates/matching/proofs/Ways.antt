@@ -1,10 +1,10 @@
--- The way back uses the first of the heaviest. In order: the pairs of a row differ (`walk-differ`), so of equals the
--- best of a chain or ring is the one that the description names (`row-first`, `row-best`), and there is one such
--- (`best-one`); what a step undoes (`step-undone`) and what a slip lifts (`slip-lifts`), in the description's words.
--- Assumes nothing.
+-- The way back uses the near end. In order: the pairs of a row differ (`walk-differ`), so where two heaviest pairings
+-- of a chain or ring, or of one less some cells, are equal, the best is the one that takes the pair at the first
+-- difference (`near-end`), and there is one such (`best-one`); what a step undoes (`step-undone`) and what a slip lifts
+-- (`slip-lifts`), in the description's words. Assumes nothing.
 use mathlib.Core.Path.{_≡_, refl, sym, ap, ap₂, _∙_}
 use mathlib.Core.Logic.{_⊎_, inl, inr, _≢_}
-use mathlib.Core.Bool.{Bool, true, false, not, cond, _&&_, _||_}
+use mathlib.Core.Bool.{Bool, true, false, true≢false, not, cond, _&&_, _||_}
 use mathlib.Core.List.{List, [], _∷_, _++_}
 use Prim.Native.Nat.{ℕ, _-_, _≤_, _<_}
 use native.Mathlib.Omega.{arith}
@@ -17,7 +17,7 @@ use Rattle.matching.specs.Graph.{Graph}
 use Rattle.matching.specs.Best.{H, best, tie, walk}
 use Rattle.matching.specs.Steps.{Rule, by-leaf, by-ring, by-chain, Step, leaf, ring, chain, apply, outweighs}
 use Rattle.matching.specs.Steps.{undo}
-use Rattle.matching.specs.Ties.{Within, MostOf, Earlier, BestOf, WithBest, Outweighs, Undone, Lifts}
+use Rattle.matching.specs.Ties.{Within, MostOf, TakesFirst, BestOf, WithBest, Outweighs, Undone, Lifts}
 use Rattle.matching.specs.Shapes.{IsRow, IsRing, IsChain, IsStep}
 use Rattle.matching.specs.Slip.{AreSteps, left, lift}
 use Rattle.matching.proofs.Tests.{Test, pass, fail, ltT, holds, fails}
@@ -82,24 +82,18 @@ module _ {n : ℕ} {w : Points} (g : Graph n w) {u v : ℕ} {inner : List ℕ} (
   abbrev row : List Pair
   row = walk u inner v
 
-  pub row-first : (t : Bool) (off : List ℕ) (m : List Pair) → Within off row m → sum w m ≡ H w off row
-      → Earlier t row (best t w off row) m
-  row-first t off m p h =
-      best-first t w (g .turned) row
-      (walk-differ u inner v (r .apart) (r .first-off) (r .last-off) (inr (r .more))) off m p h
-
-  best-within : (off : List ℕ) → Within off row (best false w off row)
+  best-within : (off : List ℕ) → Within off row (best tie w off row)
   best-within off = record {
-    among = best-each (In row) false w off row (in-all row);
-    once = best-once false w off row (each-map (λ a b h. pair-apart g a b h) row (r .live));
-    unpaired = best-off false w off row;
+    among = best-each (In row) tie w off row (in-all row);
+    once = best-once tie w off row (each-map (λ a b h. pair-apart g a b h) row (r .live));
+    unpaired = best-off tie w off row;
   }
 
   -- The best is a heaviest one, and every heaviest one has the points H.
-  pub row-heaviest : (off : List ℕ) → MostOf w off row (best false w off row)
+  pub row-heaviest : (off : List ℕ) → MostOf w off row (best tie w off row)
   row-heaviest off = record {
     within = best-within off;
-    most = λ k p. omega (arith, best-most w (g .turned) row off k p, best-H false w off row);
+    most = λ k p. omega (arith, best-most w (g .turned) row off k p, best-H tie w off row);
   }
 
   pub most-points : (off : List ℕ) (m : List Pair) → MostOf w off row m → sum w m ≡ H w off row
@@ -107,35 +101,38 @@ module _ {n : ℕ} {w : Points} (g : Graph n w) {u v : ℕ} {inner : List ℕ} (
       omega (
         arith,
         best-most w (g .turned) row off m (h .within),
-        best-H false w off row,
-        h .most (best false w off row) (best-within off),
+        best-H tie w off row,
+        h .most (best tie w off row) (best-within off),
       )
 
-  pub row-best : (off : List ℕ) → BestOf w off row (best tie w off row)
+  -- Of a ring C (u and v the same) and C less u, of a chain P, P less u, P less v and Q: the row with no cell, u, v, or
+  -- both kept free.
+  pub near-end : (off : List ℕ) → BestOf w off row (best tie w off row)
   unfolding tie
-  row-best off = record {
+  near-end off = record {
     heaviest = row-heaviest off;
-    foremost = λ k h. row-first false off k (h .within) (most-points off k h);
+    near = λ k h. best-first w (g .turned) row
+        (walk-differ u inner v (r .apart) (r .first-off) (r .last-off) (inr (r .more))) off k (h .within)
+        (most-points off k h);
   }
 
   -- with the pairs that stay
   with-best : (off off′ : List ℕ) (k m : List Pair) → off ≡ off′ → k ≡ m
       → WithBest w off′ row m (best tie w off row ++ k)
   with-best off off′ k m e f =
-      (best tie w off′ row, row-best off′, ap₂ (λ (o : List ℕ) (l : List Pair). best tie w o row ++ l) e f)
+      (best tie w off′ row, near-end off′, ap₂ (λ (o : List ℕ) (l : List Pair). best tie w o row ++ l) e f)
 
 -- There is one best: two hold the same pairs.
-same-held : (es m k : List Pair) → Earlier false es m k → Earlier false es k m
-    → Each (λ a b. sum (like a b) m ≡ sum (like a b) k) es
+same-held : (es m k : List Pair) → TakesFirst es m k → TakesFirst es k m → Each (λ a b. held a b m ≡ held a b k) es
 same-held [] m k p q = tt
-same-held (e ∷ es) m k (inl p) (inl q) = (let z : ⊥ = omega (arith, p .1, q .0) in absurd z)
-same-held (e ∷ es) m k (inl p) (inr q) = (let z : ⊥ = omega (arith, p .0, p .1, q .0) in absurd z)
-same-held (e ∷ es) m k (inr p) (inl q) = (let z : ⊥ = omega (arith, p .0, q .0, q .1) in absurd z)
+same-held (e ∷ es) m k (inl p) (inl q) = absurd (true≢false (sym (p .0) ∙ q .1))
+same-held (e ∷ es) m k (inl p) (inr q) = absurd (true≢false (sym (p .0) ∙ sym (q .0) ∙ p .1))
+same-held (e ∷ es) m k (inr p) (inl q) = absurd (true≢false (sym (q .0) ∙ sym (p .0) ∙ q .1))
 same-held (e ∷ es) m k (inr p) (inr q) = (p .0, same-held es m k (p .1) (q .1))
 
 pub best-one : (w : Points) (off : List ℕ) (es m k : List Pair) → BestOf w off es m → BestOf w off es k
-    → Each (λ a b. sum (like a b) m ≡ sum (like a b) k) es
-best-one w off es m k p q = same-held es m k (p .foremost k (q .heaviest)) (q .foremost m (p .heaviest))
+    → Each (λ a b. held a b m ≡ held a b k) es
+best-one w off es m k p q = same-held es m k (p .near k (q .heaviest)) (q .near m (p .heaviest))
 
 -- ---- a step undone
 
@@ -303,10 +300,10 @@ module _ {n : ℕ} {w : Points} (g : Graph n w) {u v z : ℕ} {inner : List ℕ}
         lt-ltb (whole - inside) (w u v)
         (omega (
           arith,
-          x (best false w [] (walk u inner v)) (best false w (u ∷ v ∷ []) (walk u inner v)) (row-heaviest g (p .row) [])
+          x (best tie w [] (walk u inner v)) (best tie w (u ∷ v ∷ []) (walk u inner v)) (row-heaviest g (p .row) [])
               (row-heaviest g (p .row) (u ∷ v ∷ [])),
-          best-H false w [] (walk u inner v),
-          best-H false w (u ∷ v ∷ []) (walk u inner v),
+          best-H tie w [] (walk u inner v),
+          best-H tie w (u ∷ v ∷ []) (walk u inner v),
           no-more,
         ))
 

@@ -16,13 +16,13 @@ unfoldable pub H : Points → List ℕ → List Pair → ℕ
 H w off [] = 0
 H w off (e ∷ es) = cond (barred off e) (H w off es) (max (H w off es) (w (e .0) (e .1) + H w (e .0 ∷ e .1 ∷ off) es))
 
--- Whether a pair is taken, by what is had without it and with it. Of equals: left out where the tie is false.
+-- Whether a pair is taken, by what is had without it and with it. Of equals: taken where the tie is true.
 abbrev pub pays : Bool → ℕ → ℕ → Bool
 pays false without with = ltb without with
 pays true without with = not (ltb with without)
 
--- 'The best is the heaviest; of equals, at the first pair in reading order where two differ, the one that leaves the
--- pair out' (the tie false; true: the one that takes it).
+-- 'The best is the heaviest'; of equals, at the first pair in reading order where two differ, the one that takes the
+-- pair where the tie is true, and leaves it out where the tie is false.
 unfoldable pub best : Bool → Points → List ℕ → List Pair → List Pair
 best t w off [] = []
 best t w off (e ∷ es) =
@@ -31,9 +31,10 @@ best t w off (e ∷ es) =
     (e ∷ best t w (e .0 ∷ e .1 ∷ off) es)
     (best t w off es))
 
--- The tie of chains and rings.
+-- The tie of chains and rings: 'where two heaviest pairings of a chain or ring are equal, the best is now the one that
+-- takes the pair at the first difference'.
 unfoldable pub tie : Bool
-tie = false
+tie = true
 
 -- The pairs of a walk from u over the cells to v, in reading order.
 abbrev pub walk : ℕ → List ℕ → ℕ → List Pair

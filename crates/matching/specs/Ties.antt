@@ -1,9 +1,9 @@
 -- The best of a part, and the way back by it, in the description's words: what `best` and `undo` compute, said without
--- computing it. Laws: proofs/Ties (`best-first`), proofs/Ways (`row-best`, `best-one`, `step-undone`,
+-- computing it. Laws: proofs/Ties (`best-first`), proofs/Ways (`near-end`, `best-one`, `step-undone`,
 -- `slip-lifts`).
 use mathlib.Core.Path.{_≡_}
 use mathlib.Core.Logic.{_⊎_}
-use mathlib.Core.Bool.{Bool, true, false}
+use mathlib.Core.Bool.{true, false}
 use mathlib.Core.List.{List, [], _∷_, _++_}
 use Prim.Native.Nat.{ℕ, _+_, _≤_, _<_}
 use Rattle.matching.specs.Lists.{mem}
@@ -23,24 +23,19 @@ pub record MostOf (w : Points) (off : List ℕ) (es m : List Pair) : Type 0 wher
   pub within : Within off es m
   pub most : (k : List Pair) → Within off es k → sum w k ≤ sum w m
 
--- Of a pair that m holds k times and n holds l times: m leaves it out and n does not (the tie false), or m holds it
--- and n does not.
-abbrev pub Ahead : Bool → ℕ → ℕ → Type 0
-Ahead false k l = (k ≡ 0) × (1 ≤ l)
-Ahead true k l = (1 ≤ k) × (l ≡ 0)
+-- m 'takes the pair at the first difference' from n: at the first of the pairs, in reading order, that one of the two
+-- holds and the other does not, if there is one, it is m that holds it.
+abbrev pub TakesFirst : List Pair → List Pair → List Pair → Type 0
+TakesFirst [] m n = Unit {0}
+TakesFirst (e ∷ es) m n =
+    ((held (e .0) (e .1) m ≡ true) × (held (e .0) (e .1) n ≡ false))
+    ⊎ ((held (e .0) (e .1) m ≡ held (e .0) (e .1) n) × TakesFirst es m n)
 
--- 'At the first pair in reading order where two differ', if there is one, m is ahead.
-abbrev pub Earlier : Bool → List Pair → List Pair → List Pair → Type 0
-Earlier t [] m n = Unit {0}
-Earlier t (e ∷ es) m n =
-    Ahead t (sum (like (e .0) (e .1)) m) (sum (like (e .0) (e .1)) n)
-    ⊎ ((sum (like (e .0) (e .1)) m ≡ sum (like (e .0) (e .1)) n) × Earlier t es m n)
-
--- 'The best is the heaviest; of equals, at the first pair in reading order where two differ, the one that leaves the
--- pair out.'
+-- 'Where two heaviest pairings of a chain or ring are equal, the best is now the one that takes the pair at the first
+-- difference.'
 pub record BestOf (w : Points) (off : List ℕ) (es m : List Pair) : Type 0 where
   pub heaviest : MostOf w off es m
-  pub foremost : (k : List Pair) → MostOf w off es k → Earlier false es m k
+  pub near : (k : List Pair) → MostOf w off es k → TakesFirst es m k
 
 -- up is the pairs m and the best of the part, X less the cells off.
 abbrev pub WithBest : Points → List ℕ → List Pair → List Pair → List Pair → Type 0

@@ -103,6 +103,21 @@ direct p = (0, 1, 10) ∷ (0, 3, p) ∷ (0, 4, 1) ∷ (1, 2, 1) ∷ (2, 3, 10) �
 abbrev pub direct-short : ℕ → List Entry
 direct-short p = (0, 1, 9) ∷ (0, 3, p) ∷ (0, 4, 1) ∷ (1, 3, 9) ∷ (3, 5, 1) ∷ []
 
+abbrev pub square : List Entry
+square = (0, 1, 5) ∷ (0, 3, 5) ∷ (1, 2, 5) ∷ (2, 3, 5) ∷ []
+
+abbrev pub ones : List Entry
+ones = (0, 1, 1) ∷ (1, 2, 1) ∷ (2, 3, 1) ∷ (3, 4, 1) ∷ []
+
+abbrev pub ones-short : List Entry
+ones-short = (0, 1, 1) ∷ (0, 4, 1) ∷ (1, 4, 1) ∷ []
+
+abbrev pub twos : List Entry
+twos = (0, 1, 2) ∷ (1, 2, 1) ∷ (2, 3, 1) ∷ (3, 4, 1) ∷ (4, 5, 2) ∷ []
+
+abbrev pub twos-short : List Entry
+twos-short = (0, 1, 1) ∷ (0, 5, 3) ∷ (1, 5, 1) ∷ []
+
 abbrev pub chain1 : List (Rule × ℕ)
 chain1 = (by-chain, 1) ∷ []
 
@@ -123,9 +138,8 @@ rows =
     -- leaf 0 is undone first and puts 0, 1 in; ring 1 puts it in place of itself
     ∷ reduced 3 ((0, 1, 5) ∷ (0, 2, 4) ∷ (1, 2, 3) ∷ []) ((by-ring, 1) ∷ (by-leaf, 0) ∷ []) (3 ∷ 2 ∷ []) 5
     ((0, 1) ∷ []) (first by-ring ∷ []) 5
-    ∷ reduced 4 ((0, 1, 5) ∷ (0, 3, 5) ∷ (1, 2, 5) ∷ (2, 3, 5) ∷ []) ((by-ring, 1) ∷ (by-leaf, 0) ∷ [])
-    (5 ∷ 5 ∷ []) 10
-    ((0, 3) ∷ (1, 2) ∷ []) (first by-ring ∷ first by-ring ∷ []) 10
+    ∷ reduced 4 square ((by-ring, 1) ∷ (by-leaf, 0) ∷ []) (5 ∷ 5 ∷ []) 10
+    ((0, 1) ∷ (2, 3) ∷ []) (first by-ring ∷ first by-ring ∷ []) 10
     -- a direct pair that is kept stays from the short list
     ∷ lifted 6 (direct 25) chain1 ((0, 3) ∷ []) 1 (direct-short 25) ((0, 3) ∷ (1, 2) ∷ [])
     (from-short ∷ first by-chain ∷ []) 26
@@ -157,5 +171,11 @@ rows =
     ((0, 2, 8) ∷ (0, 3, 8) ∷ (2, 3, 17) ∷ []) ((0, 1) ∷ []) (first by-chain ∷ []) 1
     -- a ring is read towards u's lower neighbour in the ring
     ∷ lifted 8 ((0, 4, 1) ∷ (4, 5, 5) ∷ (4, 7, 5) ∷ (5, 6, 5) ∷ (6, 7, 5) ∷ []) ((by-ring, 5) ∷ []) ((4, 5) ∷ []) 5
-    ((0, 4, 1) ∷ (4, 5, 5) ∷ []) ((4, 7) ∷ (5, 6) ∷ []) (first by-ring ∷ first by-ring ∷ []) 10
+    ((0, 4, 1) ∷ (4, 5, 5) ∷ []) ((4, 5) ∷ (6, 7) ∷ []) (first by-ring ∷ first by-ring ∷ []) 10
+    -- of equals the near end: of a ring less u; of a chain P and Q; of another P less v and P less u
+    ∷ lifted 4 square ((by-ring, 1) ∷ []) [] 5 ((0, 1, 5) ∷ []) ((1, 2) ∷ []) (first by-ring ∷ []) 5
+    ∷ lifted 5 ones chain1 ((0, 4) ∷ []) 1 ones-short ((0, 1) ∷ (2, 3) ∷ []) (first by-chain ∷ first by-chain ∷ []) 2
+    ∷ lifted 5 ones chain1 [] 1 ones-short ((1, 2) ∷ []) (first by-chain ∷ []) 1
+    ∷ lifted 6 twos chain1 ((0, 1) ∷ []) 2 twos-short ((0, 1) ∷ (2, 3) ∷ []) (first by-chain ∷ first by-chain ∷ []) 3
+    ∷ lifted 6 twos chain1 ((1, 5) ∷ []) 2 twos-short ((1, 2) ∷ (4, 5) ∷ []) (first by-chain ∷ first by-chain ∷ []) 3
     ∷ []

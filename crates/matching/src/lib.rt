@@ -3,8 +3,8 @@
 //
 // The laws, by name and file of proofs/:
 //   best      is a pairing of its pairs (best-each, best-once, best-off), has the points H (best-H), no pairing of them
-//             has more (best-most): Best. Of equals it is the one that the tie names: best-first, Ties. The recurrence
-//             of a path and of a ring: path-step, ring-step, Path.
+//             has more (best-most): Best. By the tie of chains and rings it takes, of equals, the pair at the first
+//             difference: best-first, Ties. The recurrence of a path and of a ring: path-step, ring-step, Path.
 //   stepAt    what is found is a leaf, ring or chain, and what is one is found: step-is, step-found; it is determined
 //             by rule and cell: step-one; none is found just where none is there: step-none, first-step-none; the first
 //             step is by the first rule, at the lowest cell: first-step-first. Find.
@@ -20,7 +20,7 @@
 //             allowed, and none is after them: reduce-in-turn. Reduce. A leaf where no lower cell is one comes first:
 //             first-leaf, Find.
 //   the paper the graph of a list is the list after Rule 2.3, a step the rule that it is named after: weightless,
-//             published. Published. The way back in the description's words: row-best, step-undone, slip-lifts. Ways.
+//             published. Published. The way back in the description's words: near-end, step-undone, slip-lifts. Ways.
 //   solve     the recursion over sets is the choice in reading order: solve-best, Solve; it is heaviest, and the one
 //             that is named by partners: solve-heaviest, solve-first, Foremost.
 //   lists     an accepted list is a graph: listed-graph, Entries; the short list of a graph is it again: short-points,

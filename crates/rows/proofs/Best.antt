@@ -132,14 +132,14 @@ paying-none ws ms e =
     ∙ drop-length ms
     ∙ sym (ap (λ xs. paying (map rowPoints xs)) (drop-length ws) ∙ paying-nil)
 
--- the tie: a pair that brings no more is left out
-pub pays-more : (k l : ℕ) → k < l → 1 ≡ ι (pays tie k l)
+-- the tie: a pair that brings less is left out, one that brings as much is taken
+pub pays-less : (k l : ℕ) → l < k → 0 ≡ ι (pays tie k l)
 unfolding tie
-pays-more k l h = rw (lt-ltb k l h)
+pays-less k l h = rw (lt-ltb l k h)
 
-pub pays-not : (k l : ℕ) → l ≤ k → 0 ≡ ι (pays tie k l)
+pub pays-enough : (k l : ℕ) → k ≤ l → 1 ≡ ι (pays tie k l)
 unfolding tie
-pays-not k l h = rw (le-ltb k l h)
+pays-enough k l h = rw (le-ltb l k h)
 
 pub paying-more : (ws ms : List ℕ) (i m : ℕ) {p best next : ℕ} → 0 < i → i ≤ length ws → length ms ≡ length ws
     → p ≡ rowPoints (getD ws (i - 1) 0) → best ≡ twoFrom ws i .0 → next ≡ twoFrom ws i .1

@@ -91,7 +91,7 @@ pub fn ring_points(words: &[u64]) -> RingPoints
 fn pay(without: u64, with: u64) -> u64
     ensures { λ r. ⌜ r ≡ ι (pays tie without with) ⌝ }
 {
-    if without < with { 1 } else { 0 }
+    if with < without { 0 } else { 1 }
 }
 
 // A mark as it stands behind the mark before it.
