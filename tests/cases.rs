@@ -417,60 +417,59 @@ fn of_undo(taken: &Taken, held: &Held) -> Vec<&'static str> {
     match &taken.step {
         Step::Leaf { u, .. } if held.is_paired(*u) => vec!["leaf undone, u paired"],
         Step::Leaf { .. } => vec!["leaf undone, u unpaired"],
-        Step::Ring { cells } => of_ring_undone(taken, held.holds(cells[0], z)),
-        Step::Chain { .. } => of_chain_undone(taken, held, taken.ends(), z),
-    }
-}
-
-// Cases of a ring undone, with its pair u, z held or not.
-fn of_ring_undone(taken: &Taken, is_held: bool) -> Vec<&'static str> {
-    let row = &taken.row;
-    let (name, several) = if is_held {
-        ("ring undone, u, z held", several_best_of_ring(row))
-    } else {
-        let less_u = &row[1..row.len() - 1];
-        ("ring undone, u, z not held", several_best_of_path(less_u))
-    };
-    let mut met = vec![name];
-    if several {
-        met.push("ring of which several are best");
-    }
-    if several && row.len() > 300 {
-        met.push("several best of a row of 300 cells or more");
-    }
-    met
-}
-
-// Cases of a chain undone.
-fn of_chain_undone(taken: &Taken, held: &Held, [u, v]: [u64; 2], z: u64) -> Vec<&'static str> {
-    let row = &taken.row[..];
-    let last = row.len() - 1;
-    let chain = taken.points_of_chain();
-    let (name, put) = if held.holds(u, z) && held.is_paired(v) {
-        ("chain undone, u, z held and v paired", &row[..last])
-    } else if held.holds(u, z) {
-        ("chain undone, u, z held and v unpaired", &row[..last])
-    } else if held.holds(v, z) && held.is_paired(u) {
-        ("chain undone, v, z held and u paired", &row[1..])
-    } else if held.holds(v, z) {
-        ("chain undone, v, z held and u unpaired", &row[1..])
-    } else if !held.holds(u, v) {
-        ("chain undone, none of the three held", &row[1..last])
-    } else if taken.present > chain {
-        ("chain undone, u, v held and kept", &row[1..last])
-    } else if taken.present == chain {
-        ("chain undone, u, v held and equal", row)
-    } else if taken.present > 0 {
-        ("chain undone, u, v held and lighter", row)
-    } else {
-        ("chain undone, u, v held and no direct pair", row)
-    };
-    let mut met = vec![name];
-    if several_best_of_path(put) {
-        met.push("chain of which several are best");
-        if put.len() > 300 {
-            met.push("several best of a row of 300 cells or more");
+        Step::Ring { cells } => {
+            let name = match held.holds(cells[0], z) {
+                true => "ring undone, u, z held",
+                false => "ring undone, u, z not held",
+            };
+            let several = of_several_best(taken, held, "ring of which several are best");
+            [vec![name], several].concat()
         }
+        Step::Chain { .. } => {
+            let name = of_chain_undone(taken, held, taken.ends(), z);
+            let several = of_several_best(taken, held, "chain of which several are best");
+            [vec![name], several].concat()
+        }
+    }
+}
+
+// The case of a chain undone.
+fn of_chain_undone(taken: &Taken, held: &Held, [u, v]: [u64; 2], z: u64) -> &'static str {
+    let chain = taken.points_of_chain();
+    if held.holds(u, z) && held.is_paired(v) {
+        "chain undone, u, z held and v paired"
+    } else if held.holds(u, z) {
+        "chain undone, u, z held and v unpaired"
+    } else if held.holds(v, z) && held.is_paired(u) {
+        "chain undone, v, z held and u paired"
+    } else if held.holds(v, z) {
+        "chain undone, v, z held and u unpaired"
+    } else if !held.holds(u, v) {
+        "chain undone, none of the three held"
+    } else if taken.present > chain {
+        "chain undone, u, v held and kept"
+    } else if taken.present == chain {
+        "chain undone, u, v held and equal"
+    } else if taken.present > 0 {
+        "chain undone, u, v held and lighter"
+    } else {
+        "chain undone, u, v held and no direct pair"
+    }
+}
+
+// The name and, of a long row, another, if the part put in has several heaviest pairings.
+fn of_several_best(taken: &Taken, held: &Held, name: &'static str) -> Vec<&'static str> {
+    let part = taken.part(&mut held.clone()).expect("a ring or chain");
+    let several = match part.name {
+        "C" => several_best_of_ring(part.row),
+        _ => several_best_of_path(part.row),
+    };
+    let mut met = Vec::new();
+    if several {
+        met.push(name);
+    }
+    if several && part.row.len() > 300 {
+        met.push("several best of a row of 300 cells or more");
     }
     met
 }

@@ -158,7 +158,7 @@ pub record OriginClaim (list pairing lifted origins : List ℕ) (ss : List Step)
   pub longest : length origins ≤ 2564
 
 -- What lift writes, at most 1,540 bytes: what the way back makes of the short pairing, by the best of each chain and
--- ring. Weigh answers its points. Beside it the origin list.
+-- ring, which of equals takes the pair at the first difference. Weigh answers its points. Beside it the origin list.
 pub record LiftClaim (list slip pairing : List ℕ) (ss : List Step) : Type 0 where
   pub back : (up : List Pair) × Lifts (graphIn list) ss (pairsOf pairing) up
       × (pairsOf (liftFile list slip pairing) ≡ filed up)
