@@ -5,6 +5,8 @@
 //! The landing before is here in two ways: as digests of what its archive was
 //! given and wrote for these lists, and as the reference with its tie, whose
 //! lifted pairings must have the digest of those that the archive wrote.
+//! Linked with that archive, the test prints these digests, and ends with a
+//! mismatch of the lifted pairings.
 
 use std::process::exit;
 
