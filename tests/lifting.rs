@@ -169,25 +169,23 @@ impl Tie {
     }
 }
 
-/// The best of a path: a pair is left out only where that gives more than taking
-/// it, or, by the other tie, where it gives as much.
+/// The best of a path, decided by its first pair.
 pub fn best_of_path(tie: Tie, row: &Row) -> Vec<Pair> {
-    let Some(&(pair, points)) = row.first() else {
-        return Vec::new();
-    };
-    let (without, beside) = (from(row, 1), from(row, 2));
-    if tie.takes(points + heaviest(beside), heaviest(without)) {
-        [vec![pair], best_of_path(tie, beside)].concat()
-    } else {
-        best_of_path(tie, without)
+    match row.first() {
+        Some(&first) => best_by_first(tie, first, &row[1..], from(row, 2)),
+        None => Vec::new(),
     }
 }
 
-/// The best of a ring, decided by its first pair in the same way. What is left is
-/// a path in either case.
+/// The best of a ring, decided by its first pair. What is left is a path in either case.
 pub fn best_of_ring(tie: Tie, row: &Row) -> Vec<Pair> {
-    let (pair, points) = row[0];
-    let (without, beside) = (&row[1..], &row[2..row.len() - 1]);
+    best_by_first(tie, row[0], &row[1..], &row[2..row.len() - 1])
+}
+
+// The best of a row by its first pair: left out only where the path without it gives
+// more than it and the path beside it, or, by the other tie, as much.
+fn best_by_first(tie: Tie, first: (Pair, u64), without: &Row, beside: &Row) -> Vec<Pair> {
+    let (pair, points) = first;
     if tie.takes(points + heaviest(beside), heaviest(without)) {
         [vec![pair], best_of_path(tie, beside)].concat()
     } else {
