@@ -26,7 +26,7 @@ use Rattle.checks.proofs.Accepted.{accepted-list}
 use Rattle.starting.proofs.OnList.{list-graph}
 use Rattle.lifting.specs.Calls.{graphAfter, liftedFile, bySteps, liftRows, liftFile, liftOrigins, lifting}
 use Rattle.matching.specs.Solve.{solution}
-use Rattle.solving.proofs.Solution.{solution-heaviest}
+use Rattle.matching.proofs.Solution.{solution-heaviest}
 use Rattle.lifting.proofs.Filing.{file-read, file-formed, all-entries, lifted-pairing, heaviest-lifted}
 use Rattle.claims.specs.Demand.{storeOf, shortOf, PairingOf, HeaviestOf, Writes, Allowed, Liftable, ShortKeeps}
 use Rattle.claims.specs.Demand.{WritesBoth, LiftKeeps, DemandThree}

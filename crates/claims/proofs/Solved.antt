@@ -19,7 +19,7 @@ use Rattle.reduction.specs.Calls.{replayShort}
 use Rattle.checks.proofs.Accepted.{accepted-list}
 use Rattle.lifting.specs.Calls.{pairFile, graphAfter, solvedFile, cellsAfter, solveRows, solveFile, solving}
 use Rattle.matching.specs.Solve.{solution}
-use Rattle.solving.proofs.Solution.{solution-filed, solution-heaviest, solution-first}
+use Rattle.matching.proofs.Solution.{solution-filed, solution-heaviest, solution-first}
 use Rattle.lifting.proofs.Filing.{file-read, file-formed, file-longest}
 use Rattle.claims.specs.Demand.{shortOf, PairingOf, HeaviestOf, Writes, Allowed}
 use Rattle.claims.specs.Claims.{leftCells, SolveClaim}

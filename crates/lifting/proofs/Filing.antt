@@ -40,7 +40,7 @@ use Rattle.partners.proofs.Tabled.{pairing-half}
 use Rattle.lifting.specs.Calls.{pairFile, originFile, graphAfter, pairingFile}
 use Rattle.matching.specs.Solve.{solution}
 use Rattle.lifting.proofs.Pairs.{Eleven, origin-fits}
-use Rattle.solving.proofs.Solution.{solution-heaviest}
+use Rattle.matching.proofs.Solution.{solution-heaviest}
 
 -- ---- a pairing of a graph, as a file
 

@@ -28,7 +28,7 @@ use Rattle.matching.specs.Solve.{solution}
 use Rattle.solving.specs.Left.{LeftThere, SolvedIn}
 use Rattle.cellfile.specs.Words.{wordsFile}
 use Rattle.lifting.proofs.Pairs.{pairs-file}
-use Rattle.solving.proofs.Solution.{solution-filed, solution-cells}
+use Rattle.matching.proofs.Solution.{solution-filed, solution-cells}
 
 -- ---- a graph in the slots
 

@@ -32,7 +32,7 @@ use Rattle.solving.specs.Left.{LeftThere, SolvedIn}
 use Rattle.lifting.specs.Ending.{Change, backTo, ReturnThere, Returns}
 use Rattle.lifting.specs.Tail.{after, TailThere, Tails}
 use Rattle.lifting.proofs.After.{after-graph, after-small, return-there, tail-there}
-use Rattle.solving.proofs.Solution.{solution-heaviest}
+use Rattle.matching.proofs.Solution.{solution-heaviest}
 
 -- ---- the tail
 

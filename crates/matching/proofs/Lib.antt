@@ -4,6 +4,7 @@ pub mod Tests
 pub mod Lists
 pub mod Members
 pub mod Alls
+pub mod Where
 pub mod Upto
 pub mod Pairs
 pub mod Sums
@@ -45,6 +46,10 @@ pub mod Demand
 pub mod Solve
 pub mod Partner
 pub mod Foremost
+pub mod Solution
+-- Groups.
+pub mod Reached
+pub mod Grouped
 -- The ties of what is written; the published rules.
 pub mod Ways
 pub mod Published

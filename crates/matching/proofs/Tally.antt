@@ -52,7 +52,7 @@ live-alive {n} {w} g c l = go (partners n w c) (has-partner g c (l .0) (l .1))
     go [] m = no-mem (l .0) m
     go (x ∷ xs) m = rw (lt-ltb 0 (length (x ∷ xs)) (omega arith))
 
-degree-live : (n : ℕ) (w : Points) (c : ℕ) → 0 < degree n w c → Live w c
+pub degree-live : (n : ℕ) (w : Points) (c : ℕ) → 0 < degree n w c → Live w c
 degree-live n w c = go (partners n w c) refl
   where
     go : (ps : List ℕ) → partners n w c ≡ ps → 0 < length ps → Live w c

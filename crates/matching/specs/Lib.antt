@@ -1,6 +1,6 @@
 -- Pairings (matchings) of lists of weighted pairs and the reduction steps, in the words of the product's description.
 -- In reading order: pairs and pairings; lists and graphs; the best of some pairs; steps, and the way back by ties;
--- where a step stands, and finding it; slips, where each pair came from, and what is demanded of them; solving; worked
+-- where a step stands, and finding it; slips, where each pair came from, and what is demanded of them; solving; groups; worked
 -- lists.
 pub mod Lists
 pub mod Pairs
@@ -17,4 +17,5 @@ pub mod Slip
 pub mod Origin
 pub mod Demand
 pub mod Solve
+pub mod Groups
 pub mod Worked

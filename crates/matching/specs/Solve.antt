@@ -1,7 +1,7 @@
 -- Solving: 'a heaviest pairing of the remaining graph. Of equals, look at the lowest cell whose partner differs:
 -- unpaired comes first, then the lower partner.' That is the best of the graph's pairs read by the lower cell ascending
 -- and, for one lower cell, by the other cell descending (law: proofs/Solve).
-use mathlib.Core.Bool.{false, cond, _&&_}
+use mathlib.Core.Bool.{Bool, false, cond, _&&_}
 use mathlib.Core.List.{List, [], _∷_, _++_}
 use Prim.Native.Nat.{ℕ, zero, suc, _+_}
 use lib.Dec.{eqb, ltb}
@@ -38,10 +38,13 @@ solve zero w cs = []
 solve (suc k) w [] = []
 solve (suc k) w (c ∷ cs) = tries (λ p. solve k w (less p cs)) w c cs (solve k w cs)
 
--- The cells below k that have pairs, ascending; 'a heaviest pairing of the remaining graph'.
-unfoldable pub withPairs : ℕ → Points → ℕ → List ℕ
-withPairs n w zero = []
-withPairs n w (suc k) = withPairs n w k ++ cond (ltb 0 (degree n w k)) (k ∷ []) []
+-- The cells below n that pass the test, ascending; those that have pairs; 'a heaviest pairing of the remaining graph'.
+unfoldable pub cellsWhere : ℕ → (ℕ → Bool) → List ℕ
+cellsWhere zero t = []
+cellsWhere (suc n) t = cellsWhere n t ++ cond (t n) (n ∷ []) []
+
+abbrev pub withPairs : ℕ → Points → List ℕ
+withPairs n w = cellsWhere n (λ c. ltb 0 (degree n w c))
 
 abbrev pub solution : ℕ → Points → List Pair
-solution n w = solve n w (withPairs n w n)
+solution n w = solve n w (withPairs n w)

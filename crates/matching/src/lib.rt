@@ -23,6 +23,10 @@
 //             published. Published. The way back in the description's words: near-end, step-undone, slip-lifts. Ways.
 //   solve     the recursion over sets is the choice in reading order: solve-best, Solve; it is heaviest, and the one
 //             that is named by partners: solve-heaviest, solve-first, Foremost.
+//   groups    the group of a cell is the least set with it that no pair leaves: group-least, group-closed; a group of
+//             k + 1 cells is reached over k pairs: reached-all. Reached. Sets that no pair leaves, solved one by one,
+//             give the solution: solve-groups, groups-filed, Grouped. Found by labels: own-labelled, swept-labelled,
+//             Sweeps; labels-split, labels-class, labels-parts, Classes.
 //   lists     an accepted list is a graph: listed-graph, Entries; the short list of a graph is it again: short-points,
 //             Short; a pairing in file order: filed-pairing, filed-in-order, filed-same, Filed.
 //   worked    the worked lists, computed: table, each-row, Worked; wrong turns that come out differently: WrongTurns.

@@ -25,8 +25,8 @@ use Rattle.slots.proofs.Links.{last-same}
 use Rattle.slots.proofs.Graphs.{joins-points}
 use Rattle.slots.proofs.Holding.{holds-room}
 use Rattle.slots.proofs.Finding.{found-joins}
-use Rattle.matching.specs.Solve.{withPairs}
-use Rattle.solving.specs.Gathered.{cellIn, pointsIn, FrontKept, Blank, CellsIn, Gathers, PlacesThere, RowIn}
+use Rattle.matching.specs.Solve.{cellsWhere}
+use Rattle.solving.specs.Gathered.{withBelow, cellIn, pointsIn, FrontKept, Blank, CellsIn, Gathers, PlacesThere, RowIn}
 use Rattle.solving.specs.Gathered.{RowOnly, PointsIn}
 
 -- ---- words from `atPoints` on
@@ -83,23 +83,23 @@ pub degree-at : {n : ℕ} {w : Points} {r : ℕ} (c : ℕ) → Graph n w → n �
 degree-at c g l e = e ∙ degree-more g 1024 l c
 
 module _ (n : ℕ) (w : Points) where
-  with-none : withPairs n w 0 ≡ []
-  unfolding withPairs
+  with-none : withBelow n w 0 ≡ []
+  unfolding cellsWhere
   with-none = refl
 
-  with-in : (c : ℕ) → 0 < degree n w c → withPairs n w (c + 1) ≡ withPairs n w c ++ c ∷ []
-  unfolding withPairs
+  with-in : (c : ℕ) → 0 < degree n w c → withBelow n w (c + 1) ≡ withBelow n w c ++ c ∷ []
+  unfolding cellsWhere
   with-in c l = rw (add-one c, lt-ltb 0 (degree n w c) l)
 
-  with-out : (c : ℕ) → degree n w c ≤ 0 → withPairs n w (c + 1) ≡ withPairs n w c
-  unfolding withPairs
-  with-out c l = rw (add-one c, le-ltb 0 (degree n w c) l) (append-nil (withPairs n w c))
+  with-out : (c : ℕ) → degree n w c ≤ 0 → withBelow n w (c + 1) ≡ withBelow n w c
+  unfolding cellsWhere
+  with-out c l = rw (add-one c, le-ltb 0 (degree n w c) l) (append-nil (withBelow n w c))
 
   -- how many
-  pub with-length : (c : ℕ) → length (withPairs n w c) ≡ paired n w c
-  unfolding withPairs paired
+  pub with-length : (c : ℕ) → length (withBelow n w c) ≡ paired n w c
+  unfolding cellsWhere paired
   with-length zero = refl
-  with-length (suc c) = length-append (withPairs n w c) (cond t (c ∷ []) []) ∙ omega (arith, with-length c, go t)
+  with-length (suc c) = length-append (withBelow n w c) (cond t (c ∷ []) []) ∙ omega (arith, with-length c, go t)
     where
       t : Bool
       t = ltb 0 (degree n w c)
@@ -113,11 +113,11 @@ module _ (n : ℕ) (w : Points) where
   paired-on zero c = (let z : 0 + c ≡ c = omega arith in rw z (omega arith))
   paired-on (suc d) c = (let z : suc d + c ≡ suc (d + c) = omega arith in rw z (omega (arith, paired-on d c)))
 
-  pub with-few : (c : ℕ) → length (withPairs n w c) ≤ c
-  unfolding withPairs
+  pub with-few : (c : ℕ) → length (withBelow n w c) ≤ c
+  unfolding cellsWhere
   with-few zero = omega arith
   with-few (suc c) =
-      omega (arith, length-append (withPairs n w c) (cond t (c ∷ []) []), with-few c, go t)
+      omega (arith, length-append (withBelow n w c) (cond t (c ∷ []) []), with-few c, go t)
     where
       t : Bool
       t = ltb 0 (degree n w c)
@@ -127,13 +127,13 @@ module _ (n : ℕ) (w : Points) where
       go false = omega arith
 
   -- in which order
-  pub with-below : (c i : ℕ) → i < length (withPairs n w c) → getD (withPairs n w c) i 0 < c
-  unfolding withPairs
+  pub with-below : (c i : ℕ) → i < length (withBelow n w c) → getD (withBelow n w c) i 0 < c
+  unfolding cellsWhere
   with-below zero i = λ l. (let z : ⊥ = omega arith in absurd z)
   with-below (suc c) i = go (ltb 0 (degree n w c)) (with-below c i)
     where
       cs : List ℕ
-      cs = withPairs n w c
+      cs = withBelow n w c
 
       last : i < length (cs ++ c ∷ []) → {s : Bool} → Test (i < length cs) (length cs ≤ i) s
           → (i < length cs → getD cs i 0 < c) → getD (cs ++ c ∷ []) i 0 < suc c
@@ -149,14 +149,14 @@ module _ (n : ℕ) (w : Points) where
           (let m : i < length cs = omega (arith, length-append {A = ℕ} cs []) in
           omega (arith, List·getD-append cs [] 0 i m, h m))
 
-  pub with-rising : (c i j : ℕ) → i < j → j < length (withPairs n w c)
-      → getD (withPairs n w c) i 0 < getD (withPairs n w c) j 0
-  unfolding withPairs
+  pub with-rising : (c i j : ℕ) → i < j → j < length (withBelow n w c)
+      → getD (withBelow n w c) i 0 < getD (withBelow n w c) j 0
+  unfolding cellsWhere
   with-rising zero i j k = λ l. (let z : ⊥ = omega arith in absurd z)
   with-rising (suc c) i j k = go (ltb 0 (degree n w c)) (with-rising c i j k)
     where
       cs : List ℕ
-      cs = withPairs n w c
+      cs = withBelow n w c
 
       last : j < length (cs ++ c ∷ []) → {s : Bool} → Test (j < length cs) (length cs ≤ j) s
           → (j < length cs → getD cs i 0 < getD cs j 0) → getD (cs ++ c ∷ []) i 0 < getD (cs ++ c ∷ []) j 0
@@ -209,7 +209,7 @@ module _ {n : ℕ} {w : Points} {w2 : List ℕ} where
     pub cells-in : 0 < degree n w c → k < 12 → 8192 ≤ length w2 → CellsIn n w (set w2 (atPlaces + k) c) (c + 1) (k + 1)
     cells-in l m room = record {
       few = omega arith;
-      count = omega (arith, g .count, ap length (with-in n w c l), length-append (withPairs n w c) (c ∷ []));
+      count = omega (arith, g .count, ap length (with-in n w c l), length-append (withBelow n w c) (c ∷ []));
       cells = λ i q. at i q (eqT i k) ∙ ap (λ cs. getD cs i 0) (sym (with-in n w c l));
       none = λ i a b. kept (atPlaces + i) (λ q. omega arith) ∙ g .none i (omega arith) b;
       blank = λ i a. kept (atPoints + i) (λ q. omega arith) ∙ g .blank i a;
@@ -219,14 +219,14 @@ module _ {n : ℕ} {w : Points} {w2 : List ℕ} where
         kept j d = getD-set-other w2 (atPlaces + k) j c 0 d
 
         at : (i : ℕ) → i < k + 1 → {t : Bool} → Test (i ≡ k) (i ≢ k) t
-            → cellIn (set w2 (atPlaces + k) c) i ≡ getD (withPairs n w c ++ c ∷ []) i 0
+            → cellIn (set w2 (atPlaces + k) c) i ≡ getD (withBelow n w c ++ c ∷ []) i 0
         at i q (pass e) =
             rw e (getD-set-same w2 (atPlaces + k) c 0 (omega arith)
-            ∙ sym (getD-at (withPairs n w c) c [] 0 k (sym (g .count))))
+            ∙ sym (getD-at (withBelow n w c) c [] 0 k (sym (g .count))))
         at i q (fail d) =
             (let b : i < k = omega (arith, d) in
             kept (atPlaces + i) (λ z. d (omega arith)) ∙ g .cells i b
-            ∙ sym (List·getD-append (withPairs n w c) (c ∷ []) 0 i (omega (arith, g .count))))
+            ∙ sym (List·getD-append (withBelow n w c) (c ∷ []) 0 i (omega (arith, g .count))))
 
     pub cells-crowded : 0 < degree n w c → 12 ≤ k → c < n → 12 < cellsLeft n w
     cells-crowded l m b =
@@ -235,7 +235,7 @@ module _ {n : ℕ} {w : Points} {w2 : List ℕ} where
           arith,
           g .count,
           ap length (with-in n w c l),
-          length-append (withPairs n w c) (c ∷ []),
+          length-append (withBelow n w c) (c ∷ []),
           with-length n w (c + 1),
           paired-on n w d (c + 1),
           ap (paired n w) e,

@@ -2,4 +2,3 @@
 pub mod Renaming
 pub mod Gathering
 pub mod Placing
-pub mod Solution

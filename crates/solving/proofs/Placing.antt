@@ -16,7 +16,7 @@ use borrow.Author.Tests.{eq-eqb, ne-eqb}
 use Rattle.buffers.specs.Map.{atSets, atPoints, atPlaces}
 use Rattle.matching.specs.Lists.{All}
 use Rattle.matching.specs.Pairs.{Points}
-use Rattle.matching.specs.Solve.{solve, withPairs, solution}
+use Rattle.matching.specs.Solve.{solve, solution}
 use Rattle.matching.proofs.Tests.{Test, pass, fail, eqT, ltT}
 use Rattle.matching.proofs.Alls.{all-map, all-append, all-mem}
 use Rattle.buffers.specs.Buffers.{zeros}
@@ -24,7 +24,7 @@ use Rattle.slots.specs.Slots.{graphOf}
 use Rattle.sets.specs.Sets.{places, inSet, between, cellAt, heaviest, pairOf, Ready}
 use Rattle.cellfile.specs.Words.{pairWord}
 use Rattle.solving.specs.Left.{LeftThere, SolvedIn}
-use Rattle.solving.specs.Gathered.{setWords, cellIn, FrontKept, CellsIn, Gathers, PlacesThere, PointsIn, SetThere}
+use Rattle.solving.specs.Gathered.{withBelow, setWords, cellIn, FrontKept, CellsIn, Gathers, PlacesThere, PointsIn, SetThere}
 use Rattle.solving.specs.Gathered.{SetSolved}
 use Rattle.solving.proofs.Renaming.{Renames, both, solve-renamed, solve-fuel}
 use Rattle.solving.proofs.Gathering.{front-all, holds-front, with-length, with-few, with-below, with-rising}
@@ -92,8 +92,8 @@ map-below f cs (suc k) l h =
 
 -- ---- the solution
 
-module _ (n k : ℕ) (w : Points) (ws : List ℕ) (few : k ≤ 12) (count : k ≡ length (withPairs n w n))
-    (cells : (i : ℕ) → i < k → cellAt ws i ≡ getD (withPairs n w n) i 0)
+module _ (n k : ℕ) (w : Points) (ws : List ℕ) (few : k ≤ 12) (count : k ≡ length (withBelow n w n))
+    (cells : (i : ℕ) → i < k → cellAt ws i ≡ getD (withBelow n w n) i 0)
     (points : (i j : ℕ) → i < k → j < k → between ws i j ≡ w (cellAt ws i) (cellAt ws j)) where
   rising : (i j : ℕ) → i < j → j < k → cellAt ws i < cellAt ws j
   rising i j l m =
@@ -110,10 +110,10 @@ module _ (n k : ℕ) (w : Points) (ws : List ℕ) (few : k ≤ 12) (count : k �
           other (pass b) q = omega (arith, rising i j b m)
           other (fail b) q = omega (arith, rising j i (omega (arith, d)) l)
 
-  all-cells : map (cellAt ws) (numbersBelow k) ≡ withPairs n w n
+  all-cells : map (cellAt ws) (numbersBelow k) ≡ withBelow n w n
   all-cells =
-      map-below (cellAt ws) (withPairs n w n) k (omega (arith, count)) cells
-      ∙ take-all k (withPairs n w n) (omega (arith, count))
+      map-below (cellAt ws) (withBelow n w n) k (omega (arith, count)) cells
+      ∙ take-all k (withBelow n w n) (omega (arith, count))
 
   pub places-solved : map (pairOf ws) (heaviest ws (2 ^ k - 1)) ≡ map pairWord (solution n w)
   places-solved =
@@ -122,7 +122,7 @@ module _ (n k : ℕ) (w : Points) (ws : List ℕ) (few : k ≤ 12) (count : k �
       ∙ ap (map pairWord) (sym (solve-renamed renames 12 (numbersBelow k)
       (all-mem (λ i. i < k) (numbersBelow k) (below-all k)))
       ∙ ap (solve 12 w) all-cells
-      ∙ solve-fuel 12 n w (withPairs n w n) (omega (arith, count)) (with-few n w n))
+      ∙ solve-fuel 12 n w (withBelow n w n) (omega (arith, count)) (with-few n w n))
 
 -- ---- the words for crate sets
 

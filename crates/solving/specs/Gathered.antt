@@ -7,14 +7,19 @@ use mathlib.Core.Path.{_≡_}
 use mathlib.Core.Logic.{_⊎_}
 use mathlib.Core.List.{List, map}
 use Prim.Native.Nat.{ℕ, _+_, _*_, _-_, _^_, _≤_, _<_}
+use lib.Dec.{ltb}
 use lib.ListN.{length, getD, take, drop}
 use Rattle.cellfile.specs.Words.{pointsRoom}
 use Rattle.buffers.specs.Map.{atPoints, atPlaces}
 use Rattle.matching.specs.Pairs.{Points}
-use Rattle.matching.specs.Graph.{cellsLeft}
+use Rattle.matching.specs.Graph.{degree, cellsLeft}
 use Rattle.slots.specs.Slots.{Holds, graphOf}
 use Rattle.sets.specs.Sets.{heaviest, pairOf}
-use Rattle.matching.specs.Solve.{withPairs}
+use Rattle.matching.specs.Solve.{cellsWhere}
+
+-- The cells below k that have pairs.
+abbrev pub withBelow : ℕ → Points → ℕ → List ℕ
+withBelow n w k = cellsWhere k (λ c. ltb 0 (degree n w c))
 
 -- The words for crate sets; the cell at place i and the points at i, j in them.
 abbrev pub setWords : List ℕ → List ℕ
@@ -38,8 +43,8 @@ Blank w2 = (m : ℕ) → m < 156 → getD w2 (atPoints + m) 0 ≡ 0
 -- The cells below c that have pairs stand at the first k places; all other words are zero.
 pub record CellsIn (n : ℕ) (w : Points) (w2 : List ℕ) (c k : ℕ) : Type 0 where
   pub few : k ≤ 12
-  pub count : k ≡ length (withPairs n w c)
-  pub cells : (i : ℕ) → i < k → cellIn w2 i ≡ getD (withPairs n w c) i 0
+  pub count : k ≡ length (withBelow n w c)
+  pub cells : (i : ℕ) → i < k → cellIn w2 i ≡ getD (withBelow n w c) i 0
   pub none : (i : ℕ) → k ≤ i → i < 12 → cellIn w2 i ≡ 0
   pub blank : (m : ℕ) → m < 144 → getD w2 (atPoints + m) 0 ≡ 0
 
