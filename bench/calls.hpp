@@ -12,7 +12,7 @@
 
 constexpr size_t WORK_WORDS = 8192;
 constexpr uint32_t ACCEPTED = 0;
-constexpr uint32_t TOO_MANY_CELLS_LEFT = 11;
+constexpr uint32_t GROUP_TOO_LARGE = 11;
 
 // A buffer of bytes that a call writes a file into.
 struct Output {
@@ -27,7 +27,7 @@ struct Output {
 struct Calls {
     std::vector<uint64_t> work_a = std::vector<uint64_t>(WORK_WORDS);
     std::vector<uint64_t> work_b = std::vector<uint64_t>(WORK_WORDS);
-    Output slip, short_list, solved, lifted, pairing, origins;
+    Output slip, short_list, solved, solved_whole, lifted, pairing, origins;
 
     uint32_t reduce(const Bytes &list) {
         return cells_reduce(list.data(), list.size(), work_a.data(), work_a.size(), work_b.data(), work_b.size(),
@@ -35,10 +35,18 @@ struct Calls {
                             &slip.length, &short_list.length);
     }
 
+    // Solves what a slip of so many bytes leaves.
+    uint32_t solve_after(const Bytes &list, const uint8_t *steps, size_t length, Output &output) {
+        return cells_solve(list.data(), list.size(), steps, length, work_a.data(), work_a.size(), work_b.data(),
+                           work_b.size(), output.room.data(), output.room.size(), &output.length);
+    }
+
     // Solves what the slip of the last reduce leaves.
-    uint32_t solve(const Bytes &list) {
-        return cells_solve(list.data(), list.size(), slip.room.data(), slip.length, work_a.data(), work_a.size(),
-                           work_b.data(), work_b.size(), solved.room.data(), solved.room.size(), &solved.length);
+    uint32_t solve(const Bytes &list) { return solve_after(list, slip.room.data(), slip.length, solved); }
+
+    // Solves the whole list, which the empty slip leaves.
+    uint32_t solve_whole(const Bytes &list, const Bytes &empty) {
+        return solve_after(list, empty.data(), empty.size(), solved_whole);
     }
 
     // Lifts the pairing of the last solve through the slip of the last reduce.

@@ -36,14 +36,18 @@ struct Draft {
         pair(last, to);
     }
 
-    // So many new cells with all pairs; the first of them.
-    uint64_t core(uint64_t size) {
+    // So many new cells with the pairs of those at most so far apart, and of the first and the last; the first of them.
+    uint64_t band(uint64_t size, uint64_t reach) {
         const uint64_t first = cells;
         cells += size;
         for (uint64_t a = first; a < cells; a++)
-            for (uint64_t b = a + 1; b < cells; b++) pair(a, b);
+            for (uint64_t b = a + 1; b < cells && b - a <= reach; b++) pair(a, b);
+        pair(first, cells - 1);
         return first;
     }
+
+    // So many new cells with all pairs; the first of them.
+    uint64_t core(uint64_t size) { return band(size, size); }
 };
 
 // Shapes, each of n cells
@@ -148,6 +152,18 @@ inline void draw_small_groups(Draft &draft, uint64_t n, Random &random) {
     }
 }
 
+// Groups of four cells with all pairs beside each other, and cells without pairs up to n.
+inline void draw_cores_of_four(Draft &draft, uint64_t n, Random &) {
+    while (draft.cells + 4 <= n) draft.core(4);
+    draft.cells = n;
+}
+
+// The same of groups of 12 cells, most of which have 8 pairs.
+inline void draw_bands_of_twelve(Draft &draft, uint64_t n, Random &) {
+    while (draft.cells + 12 <= n) draft.band(12, 4);
+    draft.cells = n;
+}
+
 // Groups of four cells with all pairs, each joined to the next by a chain of four inner cells; the last group's first
 // cell. At most so many cells.
 inline uint64_t join_cores(Draft &draft, uint64_t most) {
@@ -220,6 +236,8 @@ inline const std::vector<Family> FAMILIES = {
     {"core of 4 and a chain, ascending", draw_core_and_chain, Numbers::Ascending},
     {"core of 4 and a chain, shuffled", draw_core_and_chain},
     {"core of 12 with trees", draw_core_with_trees},
+    {"groups of 4, all pairs", draw_cores_of_four},
+    {"groups of 12, degree 8", draw_bands_of_twelve},
     {"cores joined by chains", draw_cores_and_chains, Numbers::Shuffled, Points::Any, false},
     {"cores and a long chain, ascending", draw_cores_and_long_chain, Numbers::Ascending, Points::Any, false},
     {"grid", draw_grid, Numbers::Shuffled, Points::Any, false},

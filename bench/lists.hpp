@@ -84,6 +84,13 @@ inline Bytes store_list(const List &list) {
     return bytes;
 }
 
+// The slip (kind 3) without steps for a list of so many cells.
+inline Bytes empty_slip(uint64_t cells) {
+    Bytes bytes;
+    append(bytes, uint64_t(3) << 28 | cells << 17, HEADER_BYTES);
+    return bytes;
+}
+
 // What a file with entries of a and b (10 bits each) and points holds after its first bytes.
 inline List entries_of(const Bytes &file, size_t first_bytes, size_t entry_bytes) {
     List list;

@@ -1,7 +1,8 @@
-// The benchmark of reduce, lift and pair over the C interface, next to LEMON's MaxWeightedMatching, and of tidy next to
-// std::sort and std::unique.
+// The benchmark of reduce, lift and pair over the C interface, next to LEMON's MaxWeightedMatching; of solve, next to
+// it on lists of many groups; and of tidy, next to std::sort and std::unique.
 //
-//     bench families FOLDER SEED    measures every family; writes table.md and chart.svg into the folder
+//     bench families FOLDER SEED    measures every family, and lists of many groups; writes table.md and chart.svg into
+//                                   the folder
 //     bench tidy FOLDER SEED        measures tidy on raw lists; writes tidy.md into the folder
 //     bench lists FILE...           measures these store lists and prints what the calls make of them
 //
@@ -16,6 +17,7 @@
 
 #include "chart.hpp"
 #include "families.hpp"
+#include "groups.hpp"
 #include "report.hpp"
 #include "tidy.hpp"
 
@@ -58,7 +60,7 @@ Row measure(const Family &family, uint64_t n, Random &random) {
     for (int i = 0; i < LISTS; i++) {
         const Bytes bytes = next_list(family, n, random, calls);
         row.pairs = count_of(bytes);
-        time_list(row, calls, bytes, family.accepted, RUNS);
+        time_list(row, calls, bytes, family.accepted ? Timed::Pair : Timed::Reduce, RUNS);
     }
     return row;
 }
@@ -72,7 +74,7 @@ void write_head(std::ostream &out) {
 }
 
 // The whole table.
-void write_table(std::ostream &out, const std::vector<Row> &rows) {
+void write_table(std::ostream &out, const std::vector<Row> &rows, const std::vector<Row> &groups) {
     write_head(out);
     if (PEER) {
         out << "### Ratios, ours / LEMON\n\n";
@@ -81,7 +83,9 @@ void write_table(std::ostream &out, const std::vector<Row> &rows) {
         write_unfavourable(out, rows);
         out << "\n";
     }
-    out << "### Times\n\n";
+    out << "### Solving what is left, group by group\n\n";
+    write_groups(out, groups);
+    out << "\n### Times\n\n";
     write_reduce(out, rows[SIZES.size() - 1]);
     out << "\n";
     write_times(out, rows);
@@ -96,8 +100,13 @@ int measure_families(const std::string &folder, uint64_t seed) {
             rows.push_back(measure(family, n, random));
             std::cerr << family.name << ", " << n << " cells: " << median_ratio(rows.back()) << "\n";
         }
+    std::vector<Row> groups;
+    for (const GroupList &kind : GROUP_LISTS) {
+        groups.push_back(measure_groups(kind, LISTS, RUNS, random));
+        std::cerr << kind.name << ": " << solve_ratio(groups.back()) << "\n";
+    }
     std::ofstream table(folder + "/table.md"), drawing(folder + "/chart.svg");
-    write_table(table, rows);
+    write_table(table, rows, groups);
     chart::write(drawing, rows, SIZES.size());
     table.close();
     drawing.close();
@@ -152,7 +161,7 @@ void measure_file(const std::string &name, std::vector<Row> &rows) {
     row.family = name;
     row.cells = cells_of(bytes);
     row.pairs = count_of(bytes);
-    time_list(row, calls, bytes, outcome.accepted, RUNS_OF_A_FILE);
+    time_list(row, calls, bytes, outcome.accepted ? Timed::Pair : Timed::Reduce, RUNS_OF_A_FILE);
     rows.push_back(row);
 }
 

@@ -40,8 +40,12 @@ struct Row {
     std::string family;
     uint64_t cells = 0;
     size_t pairs = 0;
-    Times reduce, lift, pair, peer, peer_with_graph;
+    Times reduce, lift, pair, solve_whole, peer, peer_with_graph;
 };
+
+// Which calls are timed on a list: reduce always, lift and pair where pair accepts it, and solve with the empty slip
+// where all groups of the list are small.
+enum class Timed { Reduce, Pair, Whole };
 
 // What the calls make of one list.
 struct Outcome {
@@ -71,7 +75,7 @@ inline Outcome run_once(Calls &calls, const Bytes &list) {
     outcome.short_entries = count_of(calls.short_list.file());
     outcome.carried = carried_of(calls.short_list.file());
     const uint32_t paired = calls.pair(list);
-    if (paired == TOO_MANY_CELLS_LEFT) return outcome;
+    if (paired == GROUP_TOO_LARGE) return outcome;
     if (paired != ACCEPTED || calls.solve(list) != ACCEPTED || calls.lift(list) != ACCEPTED)
         fail("pair, solve or lift refuses the list: pair " + std::to_string(paired));
     outcome.accepted = true;
@@ -101,14 +105,17 @@ void time_call(Times &times, Call call) {
 }
 
 // Adds the times of the calls and of the peer on one list, by turns, so many times.
-inline void time_list(Row &row, Calls &calls, const Bytes &bytes, bool accepted, int runs) {
+inline void time_list(Row &row, Calls &calls, const Bytes &bytes, Timed timed, int runs) {
     const List list = read_store_list(bytes);
     const StoreGraph graph(list);
-    for (Times *times : {&row.reduce, &row.lift, &row.pair, &row.peer, &row.peer_with_graph}) times->next_list();
+    const Bytes empty = empty_slip(list.cells);
+    for (Times *times : {&row.reduce, &row.lift, &row.pair, &row.solve_whole, &row.peer, &row.peer_with_graph})
+        times->next_list();
     for (int run = 0; run < runs; run++) {
         time_call(row.reduce, [&] { return calls.reduce(bytes); });
-        if (accepted) time_call(row.lift, [&] { return calls.lift(bytes); });
-        if (accepted) time_call(row.pair, [&] { return calls.pair(bytes); });
+        if (timed != Timed::Reduce) time_call(row.lift, [&] { return calls.lift(bytes); });
+        if (timed != Timed::Reduce) time_call(row.pair, [&] { return calls.pair(bytes); });
+        if (timed == Timed::Whole) time_call(row.solve_whole, [&] { return calls.solve_whole(bytes, empty); });
         if (PEER) graph.time_run(row.peer.all);
         if (PEER) StoreGraph::time_build_and_run(list, row.peer_with_graph.all);
     }

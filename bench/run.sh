@@ -1,8 +1,9 @@
 #!/bin/sh
-# Builds the archive of the C interface and the benchmark over it, and measures reduce, lift and pair next to LEMON, and
-# tidy next to std::sort and std::unique.
+# Builds the archive of the C interface and the benchmark over it, and measures reduce, lift and pair next to LEMON,
+# solve on lists of many groups next to LEMON, and tidy next to std::sort and std::unique.
 #
-#     sh bench/run.sh [SEED]                  every family of shapes, and tidy; tables and chart in target/bench
+#     sh bench/run.sh [SEED]                  every family of shapes, lists of many groups, and tidy; tables and chart
+#                                             in target/bench
 #     sh bench/run.sh --record [SEED]         the same, and puts all into docs/PERFORMANCE.md and docs/performance.svg
 #     sh bench/run.sh --record-tidy [SEED]    tidy alone, and puts its table into docs/PERFORMANCE.md
 #     sh bench/run.sh --lists FILE...         these store lists; prints what the calls make of them, and the times

@@ -47,8 +47,8 @@ uint32_t cells_reduce(const uint8_t *list, size_t list_len,
 
 /* Solves what a slip (kind 3) leaves of a store list: writes a heaviest pairing (kind 4) of the pairs left, of
  * *pairing_len bytes; of equals, at the lowest cell whose partner differs, unpaired comes first, then the lower
- * partner. Refusals: 1, 2 to 6, 7, 8 (the slip), 11 (more than 12 cells have pairs left), 12 (the output is shorter
- * than its file). */
+ * partner. Refusals: 1, 2 to 6, 7, 8 (the slip), 11 (some connected group of the cells left has more than 12), 12
+ * (the output is shorter than its file). */
 uint32_t cells_solve(const uint8_t *list, size_t list_len,
                      const uint8_t *slip, size_t slip_len,
                      uint64_t *work_a, size_t work_a_len,
@@ -75,8 +75,8 @@ uint32_t cells_lift(const uint8_t *list, size_t list_len,
 
 /* Pairs a store list: reduces it, solves what is left and lifts that; writes a heaviest pairing of the list, of
  * *pairing_len bytes, and its origin list (kind 5), of *origins_len bytes, as cells_lift does with the slip of
- * cells_reduce. Refusals: 1, 2 to 6, 11 (more than 12 cells have pairs left), 12 (an output is shorter than its file:
- * neither is written). */
+ * cells_reduce. Refusals: 1, 2 to 6, 11 (some connected group of the cells left has more than 12), 12 (an output is
+ * shorter than its file: neither is written). */
 uint32_t cells_pair(const uint8_t *list, size_t list_len,
                     uint64_t *work_a, size_t work_a_len,
                     uint64_t *work_b, size_t work_b_len,

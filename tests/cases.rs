@@ -38,7 +38,7 @@ pub const OF_STEPS: [&str; 21] = [
     "1,000 cells or more with pairs",
 ];
 
-/// Cases of the calls that can leave so much.
+/// Cases of the calls that can leave so much; those that solve do on several groups.
 pub const OF_MANY_LEFT: [&str; 1] = ["4,000 pairs or more left"];
 
 /// Cases of the calls that are given a slip.
@@ -64,11 +64,56 @@ pub const OF_TWO_FILES: [&str; 3] = [
 /// Cases of the calls that solve what is left; the last two are refused.
 pub const OF_SOLVING: [&str; 6] = [
     "no pairs left",
-    "11 cells left",
-    "12 cells left",
+    "largest group of 11 cells left",
+    "largest group of 12 cells left",
     "several heaviest pairings of what is left",
-    "13 cells left",
-    "14 cells or more left",
+    "largest group of 13 cells left",
+    "largest group of 14 cells or more left",
+];
+
+/// The case that comparisons on lists of several groups are made for.
+pub const OF_SEVERAL: [&str; 1] = ["several groups left, and solved"];
+
+/// Cases of what is left of lists of several groups; the last three are refused.
+pub const OF_GROUPS: [&str; 16] = [
+    "2 groups left",
+    "3 to 9 groups left",
+    "10 groups or more left",
+    "60 groups or more left",
+    "more than 12 cells left",
+    "several groups of 12 cells left",
+    "groups in blocks",
+    "groups not in blocks",
+    "groups by turns",
+    "several heaviest pairings of several groups",
+    "groups parted by a leaf",
+    "groups parted by the leaf of a ring",
+    "groups parted by a chain",
+    "one group of 13 cells, the others smaller",
+    "the same, and it has the lowest cell",
+    "the same, and it has the highest cell",
+];
+
+/// The sizes of groups left of which one is solved; steps leave none of the first two.
+pub const OF_GROUP_SIZES: [&str; 11] = [
+    "a group of 2 cells",
+    "a group of 3 cells",
+    "a group of 4 cells",
+    "a group of 5 cells",
+    "a group of 6 cells",
+    "a group of 7 cells",
+    "a group of 8 cells",
+    "a group of 9 cells",
+    "a group of 10 cells",
+    "a group of 11 cells",
+    "a group of 12 cells",
+];
+
+/// Cases of a slip that leaves several groups.
+pub const OF_GROUPS_AND_SLIP: [&str; 3] = [
+    "several groups left, no step",
+    "several groups left, slip stops early",
+    "several groups left, slip to the end",
 ];
 
 /// Cases of the calls that lift.
@@ -139,7 +184,7 @@ pub fn cases(
         }
         Err(8) => of_bad_step(input),
         Err(10) => of_bad_pair(input),
-        Err(11) => of_many_cells(input),
+        Err(11) => of_large_group(input),
         Err(12) => of_short_room(&input.lengths(), room),
         Err(_) => Vec::new(),
     }
@@ -168,8 +213,8 @@ fn of_steps(input: &Input) -> Vec<&'static str> {
     if input.steps.is_empty() && graph.cells().next().is_some() {
         met.push("no step and pairs left");
     }
-    if graph.pairs().len() >= 4000 {
-        met.extend(OF_MANY_LEFT);
+    if !input.solves() {
+        met.extend(of_many_left(&graph));
     }
     if input.has_slip() {
         met.push(match graph.first_step() {
@@ -178,6 +223,14 @@ fn of_steps(input: &Input) -> Vec<&'static str> {
         });
     }
     met
+}
+
+// Cases of how much is left.
+fn of_many_left(graph: &Graph) -> Vec<&'static str> {
+    match graph.pairs().len() {
+        4000.. => OF_MANY_LEFT.to_vec(),
+        _ => Vec::new(),
+    }
 }
 
 // Takes one step; cases of it, looked at before and after.
@@ -313,10 +366,10 @@ fn of_pairings(input: &Input) -> Vec<&'static str> {
 // Cases of what is solved.
 fn of_solving(graph: &Graph, solved: &Held) -> Vec<&'static str> {
     let mut met = Vec::new();
-    match graph.cells().count() {
+    match graph.largest_group() {
         0 => met.push("no pairs left"),
-        11 => met.push("11 cells left"),
-        12 => met.push("12 cells left"),
+        11 => met.push("largest group of 11 cells left"),
+        12 => met.push("largest group of 12 cells left"),
         _ => {}
     }
     if *solved != solved_from_above(graph) {
@@ -333,12 +386,147 @@ fn solved_from_above(graph: &Graph) -> Held {
     Held::new(lifting::solve(&above).pairs().into_iter().map(turned))
 }
 
-// Cases of more cells left than can be solved.
-fn of_many_cells(input: &Input) -> Vec<&'static str> {
-    vec![match input.left.graph.cells().count() {
-        13 => "13 cells left",
-        _ => "14 cells or more left",
+// Cases of a group left that is larger than can be solved.
+fn of_large_group(input: &Input) -> Vec<&'static str> {
+    vec![match input.left.graph.largest_group() {
+        13 => "largest group of 13 cells left",
+        _ => "largest group of 14 cells or more left",
     }]
+}
+
+// Several groups
+
+/// The cases that hold of a call on a list of several groups, with what it was lent
+/// and its answer.
+pub fn cases_of_groups(
+    input: &Input,
+    work: [usize; 2],
+    room: &[usize],
+    answer: &Answer,
+) -> Vec<&'static str> {
+    let groups = input.left.graph.groups();
+    match answer {
+        Ok(_) => {
+            let mut met = of_room(input, work, room);
+            met.extend(of_sizes(&groups));
+            met.extend(of_many_left(&input.left.graph));
+            if groups.len() > 1 {
+                met.extend(OF_SEVERAL);
+                met.extend(of_order(&groups));
+                met.extend(of_equals(input, &groups));
+                met.extend(of_parting(input));
+                met.extend(of_slip_of_groups(input));
+            }
+            met
+        }
+        Err(11) => of_thirteen(&groups),
+        Err(12) => of_short_room(&input.lengths(), room),
+        Err(_) => Vec::new(),
+    }
+}
+
+// Cases of the number of groups that are solved, and of their cells.
+fn of_sizes(groups: &[Vec<u64>]) -> Vec<&'static str> {
+    let mut met = match groups.len() {
+        0 | 1 => Vec::new(),
+        2 => vec!["2 groups left"],
+        3..=9 => vec!["3 to 9 groups left"],
+        10..=59 => vec!["10 groups or more left"],
+        _ => vec!["10 groups or more left", "60 groups or more left"],
+    };
+    if groups.concat().len() > MOST_SOLVED {
+        met.push("more than 12 cells left");
+    }
+    let of_size = |size: usize| groups.iter().filter(|group| group.len() == size).count();
+    if of_size(MOST_SOLVED) > 1 {
+        met.push("several groups of 12 cells left");
+    }
+    let sizes = (2..).zip(OF_GROUP_SIZES);
+    met.extend(
+        sizes
+            .filter(|&(size, _)| of_size(size) > 0)
+            .map(|(_, name)| name),
+    );
+    met
+}
+
+// Cases of how the cells of several groups are numbered: each group above those before
+// it, or not; each cell of a group so far above the one before it as there are groups.
+fn of_order(groups: &[Vec<u64>]) -> Vec<&'static str> {
+    let mut met = vec![match groups.concat().is_sorted() {
+        true => "groups in blocks",
+        false => "groups not in blocks",
+    }];
+    let turn = groups.len() as u64;
+    let by_turns = |group: &Vec<u64>| group.windows(2).all(|two| two[1] - two[0] == turn);
+    if groups.iter().all(by_turns) {
+        met.push("groups by turns");
+    }
+    met
+}
+
+// The case of two groups or more that have several heaviest pairings each.
+fn of_equals(input: &Input, groups: &[Vec<u64>]) -> Vec<&'static str> {
+    let solved = input.short_pairing.pairs();
+    let above = solved_from_above(&input.left.graph);
+    let differs = |&&(a, b): &&Pair| !above.holds(a, b);
+    let different: Vec<u64> = solved.iter().filter(differs).map(|&(a, _)| a).collect();
+    let is_among = |group: &&Vec<u64>| different.iter().any(|cell| group.contains(cell));
+    match groups.iter().filter(is_among).count() {
+        0 | 1 => Vec::new(),
+        _ => vec!["several heaviest pairings of several groups"],
+    }
+}
+
+// Cases of the steps after which there are more groups than before.
+fn of_parting(input: &Input) -> Vec<&'static str> {
+    let mut graph = input.working_graph();
+    let mut groups = graph.groups().len();
+    let mut rings = Vec::new();
+    let mut met = Vec::new();
+    for taken in &input.left.taken {
+        graph.take(&taken.step);
+        let (before, named) = (groups, taken.step.named());
+        groups = graph.groups().len();
+        match named.rule {
+            RING => rings.push(named.cell),
+            _ if groups <= before => {}
+            CHAIN => met.push("groups parted by a chain"),
+            _ if rings.contains(&named.cell) => met.push("groups parted by the leaf of a ring"),
+            _ => met.push("groups parted by a leaf"),
+        }
+    }
+    met
+}
+
+// The case of the slip that leaves several groups, where the call is given one.
+fn of_slip_of_groups(input: &Input) -> Vec<&'static str> {
+    let [none, early, end] = OF_GROUPS_AND_SLIP;
+    match input.left.graph.first_step() {
+        _ if !input.has_slip() => Vec::new(),
+        _ if input.steps.is_empty() => vec![none],
+        Some(_) => vec![early],
+        None => vec![end],
+    }
+}
+
+// Cases of one group of 13 cells among several, none of the others larger than 12.
+fn of_thirteen(groups: &[Vec<u64>]) -> Vec<&'static str> {
+    let large: Vec<&Vec<u64>> = groups
+        .iter()
+        .filter(|group| group.len() > MOST_SOLVED)
+        .collect();
+    let mut met = Vec::new();
+    if groups.len() > 1 && large.len() == 1 && large[0].len() == MOST_SOLVED + 1 {
+        met.push("one group of 13 cells, the others smaller");
+        if groups[0].len() > MOST_SOLVED {
+            met.push("the same, and it has the lowest cell");
+        }
+        if large[0].last() == groups.concat().iter().max() {
+            met.push("the same, and it has the highest cell");
+        }
+    }
+    met
 }
 
 // Cases of the pairing that lift is given and accepts.
@@ -359,7 +547,7 @@ fn of_given_pairing(input: &Input) -> Vec<&'static str> {
             Some(_) => {}
         }
     }
-    if (1..=MOST_SOLVED).contains(&graph.cells().count()) {
+    if (1..=MOST_SOLVED).contains(&graph.largest_group()) {
         met.extend(of_weight(graph, &input.short_pairing));
     }
     met

@@ -150,8 +150,13 @@ impl Tally {
 
     /// Counts a name; one that is not of this tally is an error of the comparison.
     pub fn meet(&mut self, name: &'static str) {
-        assert!(self.names.contains(&name), "no name of a tally: {name}");
+        assert!(self.has(name), "no name of a tally: {name}");
         *self.counts.entry(name).or_default() += 1;
+    }
+
+    /// Whether a name is of this tally.
+    pub fn has(&self, name: &str) -> bool {
+        self.names.contains(&name)
     }
 
     // How often a name was met.

@@ -2,7 +2,7 @@
 //! allowed on a graph, what each of them leaves and carries, and what a slip or
 //! reduce makes of a list.
 //!
-//! In order: the graph, points of rows, rows, steps, slips.
+//! In order: the graph, groups, points of rows, rows, steps, slips.
 
 use std::collections::BTreeMap;
 
@@ -90,6 +90,43 @@ impl Graph {
         for (partner, _) in self.partners(cell).collect::<Vec<_>>() {
             self.set(cell, partner, 0);
         }
+    }
+}
+
+// Groups
+
+impl Graph {
+    /// The connected groups of the cells that have pairs, each with its cells in
+    /// order; the group of the lowest cell comes first.
+    pub fn groups(&self) -> Vec<Vec<u64>> {
+        let mut seen = vec![false; self.partners.len()];
+        let mut groups = Vec::new();
+        for cell in self.cells() {
+            let mut group = Vec::new();
+            self.visit(cell, &mut seen, &mut group);
+            if !group.is_empty() {
+                group.sort();
+                groups.push(group);
+            }
+        }
+        groups
+    }
+
+    // Takes a cell that was not seen yet into a group, then all that its partners lead to.
+    fn visit(&self, cell: u64, seen: &mut [bool], group: &mut Vec<u64>) {
+        if !seen[cell as usize] {
+            seen[cell as usize] = true;
+            group.push(cell);
+            for (partner, _) in self.partners(cell) {
+                self.visit(partner, seen, group);
+            }
+        }
+    }
+
+    /// The number of cells of the largest group, zero if there is none.
+    pub fn largest_group(&self) -> usize {
+        let sizes = self.groups().into_iter().map(|group| group.len());
+        sizes.max().unwrap_or(0)
     }
 }
 

@@ -1,17 +1,20 @@
 //! The reference of solve, lift and pair against the document, without the
 //! library: its worked rows, then all pairings of what slips leave of small
-//! lists, with the way back and the order of solve taken literally. The origins
+//! lists, with the way back and the order of solve taken literally; solve on
+//! lists of several groups against all pairings of the whole, and the groups
+//! against the paths from cell to cell. The origins
 //! are found in two other ways: by the first step of the slip whose undoing puts
 //! the pair in, and, without the way back, by the first step whose row has it.
 
 use std::collections::{BTreeMap, BTreeSet};
 
 use crate::graph::{self, Graph, Named, Step, LEAF, RING};
+use crate::groups::{self, Fate};
 use crate::inputs::{Form, Random};
 use crate::lifting::{self, Held, Lifted, Taken, Tie};
 use crate::lifting_rows;
 use crate::pairings;
-use crate::reference::{self, Input, Pair};
+use crate::reference::{self, Input, Pair, MOST_SOLVED};
 use crate::selfcheck::{self, expect, pairs_of, written, Pairs};
 use crate::shapes;
 use crate::slips;
@@ -19,6 +22,11 @@ use crate::slips;
 /// How many random lists of a few cells, and of any size, are tried.
 const SMALL_LISTS: u64 = 500;
 const LISTS: u64 = 300;
+/// How many random lists of a few cells in several groups, and of groups of any size.
+const SMALL_GROUP_LISTS: u64 = 4000;
+const GROUP_LISTS: u64 = 300;
+/// The cells of which every list of several groups is tried, and the points of a pair.
+const ALL_GROUP_LISTS: (u64, u64) = (6, 2);
 
 /// Pairs in which no cell stands twice.
 type Pairing = BTreeSet<Pair>;
@@ -52,6 +60,20 @@ pub fn run(seed: u64) {
     println!(
         "reference of lifting: {rows} worked rows, {lifted} pairings lifted of all that slips \
          leave of all small lists and of {SMALL_LISTS} others, {LISTS} lists"
+    );
+    let graphs = check_all_groups();
+    for _ in 0..SMALL_GROUP_LISTS {
+        let list = groups::small_list(&mut random);
+        check_small_groups(&list);
+    }
+    for place in 0..GROUP_LISTS {
+        let fate = [Fate::Any, Fate::Kept][place as usize % 2];
+        let (_, list) = groups::list_of_groups(&mut random, fate);
+        check_groups(&list);
+    }
+    println!(
+        "reference of groups: {graphs} graphs of all lists of {ALL_GROUP_LISTS:?} cells and \
+         points that have several, {SMALL_GROUP_LISTS} small lists, {GROUP_LISTS} lists"
     );
 }
 
@@ -560,6 +582,98 @@ fn check_single_pairs(list: &Form, slip: &[u8], left: &Pairs) {
                 format!("{left:?}: {a}-{b} is refused: {refused}")
             });
         }
+    }
+}
+
+// Several groups
+
+// The group of a cell by its words: the cells to which a path of pairs leads from it.
+fn literal_group(pairs: &Pairs, cell: u64) -> BTreeSet<u64> {
+    let paths = selfcheck::paths(pairs).into_iter();
+    let from_cell = paths.filter(|path| path[0] == cell);
+    let ends = from_cell.map(|path| path[path.len() - 1]);
+    ends.chain([cell]).collect()
+}
+
+// The same where there are too many paths to look at each: the cell, then again and
+// again all that are paired with one that was reached, until that brings no more.
+fn reached(pairs: &Pairs, cell: u64) -> BTreeSet<u64> {
+    let mut reached = BTreeSet::from([cell]);
+    loop {
+        let joined = pairs
+            .keys()
+            .filter(|(a, b)| reached.contains(a) || reached.contains(b));
+        let next: BTreeSet<u64> = joined.flat_map(|&(a, b)| [a, b]).chain([cell]).collect();
+        if next == reached {
+            return reached;
+        }
+        reached = next;
+    }
+}
+
+// Checks the groups of a graph: each cell that has pairs is in one, that of its words.
+fn check_groups_of(graph: &Graph, group_of: impl Fn(&Pairs, u64) -> BTreeSet<u64>) {
+    let pairs = pairs_of(graph);
+    let mut cells = selfcheck::cells_of(&pairs);
+    let groups = graph.groups();
+    for group in &groups {
+        let literal = cells.first().map(|&lowest| group_of(&pairs, lowest));
+        let found: BTreeSet<u64> = group.iter().copied().collect();
+        expect(
+            literal.as_ref() == Some(&found) && group.is_sorted(),
+            || format!("{pairs:?}: a group is {group:?} and not {literal:?}"),
+        );
+        cells = &cells - &found;
+    }
+    let largest = groups.iter().map(Vec::len).max();
+    expect(
+        cells.is_empty() && graph.largest_group() == largest.unwrap_or(0),
+        || format!("{pairs:?}: {groups:?} are not all groups"),
+    );
+}
+
+// Checks all lists of a few cells and few points that have several groups; how many
+// there are.
+fn check_all_groups() -> u64 {
+    let (cells, points) = ALL_GROUP_LISTS;
+    let mut graphs = 0;
+    for graph in selfcheck::all_graphs(cells, points) {
+        if graph.groups().len() > 1 {
+            check_groups_of(&graph, literal_group);
+            check_solve(&graph);
+            graphs += 1;
+        }
+    }
+    graphs
+}
+
+// Checks a list of a few cells in several groups: the groups, what solve writes of all
+// of it, and what pair does.
+fn check_small_groups(list: &Form) {
+    let graph = slips::graph_of(list);
+    check_groups_of(&graph, literal_group);
+    check_solve(&graph);
+    let (bytes, slip) = (list.bytes(), slips::form(list.n, &[]).bytes());
+    let solved = written_pairing(list, Input::solve(&bytes, &slip));
+    expect(solved == literal_solve(&pairs_of(&graph)), || {
+        format!("{:?}: solve writes {solved:?}", list.entries)
+    });
+    check_pair(list);
+}
+
+// Checks a list of groups of any size: the groups of all of it and of what reduce
+// leaves, and that 11 is answered by the largest of them, whatever the others.
+fn check_groups(list: &Form) {
+    let (bytes, slip) = (list.bytes(), slips::form(list.n, &[]).bytes());
+    for input in [Input::solve(&bytes, &slip), Input::pair(&bytes)] {
+        let graph = &input.left.graph;
+        check_groups_of(graph, reached);
+        let pairs = pairs_of(graph);
+        let sizes = graph.cells().map(|cell| reached(&pairs, cell).len());
+        let is_large = sizes.into_iter().any(|size| size > MOST_SOLVED);
+        expect(input.refusals().contains(&11) == is_large, || {
+            format!("{pairs:?}: a group is too large: {is_large}, and 11 says otherwise")
+        });
     }
 }
 

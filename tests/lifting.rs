@@ -5,6 +5,7 @@
 //! In order: pairings, solve, the best of a row, the way back, origins.
 
 use std::collections::BTreeMap;
+use std::iter;
 
 use crate::graph::{heaviest_of_path, Graph, Named, Step};
 use crate::reference::Pair;
@@ -72,6 +73,22 @@ impl Held {
 
 // Solve
 
+/// A heaviest pairing of a graph whose groups have few cells: a pair stands in
+/// one group, so it is the heaviest pairings of the groups, joined. Of equals,
+/// look at the lowest cell whose partner differs: unpaired comes first, then
+/// the lower partner. That cell lies in one group, and the others have no say.
+pub fn solve(graph: &Graph) -> Held {
+    let groups = graph.groups().into_iter();
+    Held::new(groups.flat_map(|cells| Group::new(graph, cells).solve()))
+}
+
+/// The cells of a group in order, and for each of them its higher partners, the
+/// lowest first: their places in the group, and the points of the pairs.
+struct Group {
+    cells: Vec<u64>,
+    partners: Vec<Vec<(usize, u64)>>,
+}
+
 /// What may become of the lowest cell of a set: the pair it stands in, if any,
 /// the points of that pair, and the set of the cells that are left.
 struct Choice {
@@ -80,58 +97,63 @@ struct Choice {
     rest: usize,
 }
 
-/// A heaviest pairing of a graph of few cells. Of equals, look at the lowest
-/// cell whose partner differs: unpaired comes first, then the lower partner.
-pub fn solve(graph: &Graph) -> Held {
-    let cells: Vec<u64> = graph.cells().collect();
-    let heaviest = heaviest_of_sets(graph, &cells);
-    let mut held = Held::default();
-    let mut set = heaviest.len() - 1;
-    while set != 0 {
-        let choices = choices(graph, &cells, set);
-        let is_best = |choice: &&Choice| choice.points + heaviest[choice.rest] == heaviest[set];
-        let first = choices.iter().find(is_best).expect("a best choice");
-        held.add_all(first.pair);
-        set = first.rest;
+impl Group {
+    // The group of these cells.
+    fn new(graph: &Graph, cells: Vec<u64>) -> Group {
+        let higher = |&cell: &u64| {
+            let others = cells.iter().enumerate().filter(|&(_, &other)| cell < other);
+            let pairs = others.map(|(place, &other)| (place, graph.points(cell, other)));
+            pairs.filter(|&(_, points)| points > 0).collect()
+        };
+        let partners = cells.iter().map(higher).collect();
+        Group { cells, partners }
     }
-    held
-}
 
-// H of every set of cells, from that of smaller sets. A set is a number: its
-// bit of a place says whether the cell of that place is in it.
-fn heaviest_of_sets(graph: &Graph, cells: &[u64]) -> Vec<u64> {
-    let mut heaviest = vec![0];
-    for set in 1..1 << cells.len() {
-        let choices = choices(graph, cells, set);
-        let points = choices
-            .iter()
-            .map(|choice| choice.points + heaviest[choice.rest]);
-        heaviest.push(points.max().unwrap_or(0));
-    }
-    heaviest
-}
-
-// What may become of a set's lowest cell, in the order of the tie: it stays
-// unpaired, or has one of its partners in the set, the lowest first.
-fn choices(graph: &Graph, cells: &[u64], set: usize) -> Vec<Choice> {
-    let lowest = set.trailing_zeros() as usize;
-    let others = set & !(1 << lowest);
-    let mut choices = vec![Choice {
-        pair: None,
-        points: 0,
-        rest: others,
-    }];
-    for place in (0..cells.len()).filter(|place| others >> place & 1 == 1) {
-        let points = graph.points(cells[lowest], cells[place]);
-        if points > 0 {
-            choices.push(Choice {
-                pair: Some((cells[lowest], cells[place])),
-                points,
-                rest: others & !(1 << place),
-            });
+    // The first of its heaviest pairings.
+    fn solve(&self) -> Vec<Pair> {
+        let heaviest = self.heaviest_of_sets();
+        let mut pairs = Vec::new();
+        let mut set = heaviest.len() - 1;
+        while set != 0 {
+            let is_best = |choice: &Choice| choice.points + heaviest[choice.rest] == heaviest[set];
+            let first = self.choices(set).find(is_best).expect("a best choice");
+            pairs.extend(first.pair);
+            set = first.rest;
         }
+        pairs
     }
-    choices
+
+    // H of every set of cells, from that of smaller sets. A set is a number: its
+    // bit of a place says whether the cell of that place is in it.
+    fn heaviest_of_sets(&self) -> Vec<u64> {
+        let mut heaviest = vec![0];
+        for set in 1..1 << self.cells.len() {
+            let choices = self.choices(set);
+            let points = choices.map(|choice| choice.points + heaviest[choice.rest]);
+            heaviest.push(points.max().unwrap_or(0));
+        }
+        heaviest
+    }
+
+    // What may become of a set's lowest cell, in the order of the tie: it stays
+    // unpaired, or has one of its partners in the set, the lowest first.
+    fn choices(&self, set: usize) -> impl Iterator<Item = Choice> + '_ {
+        let lowest = set.trailing_zeros() as usize;
+        let others = set & !(1 << lowest);
+        let unpaired = Choice {
+            pair: None,
+            points: 0,
+            rest: others,
+        };
+        let partners = self.partners[lowest].iter();
+        let in_set = partners.filter(move |&&(place, _)| others >> place & 1 == 1);
+        let paired = in_set.map(move |&(place, points)| Choice {
+            pair: Some((self.cells[lowest], self.cells[place])),
+            points,
+            rest: others & !(1 << place),
+        });
+        iter::once(unpaired).chain(paired)
+    }
 }
 
 // The best of a row

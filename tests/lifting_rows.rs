@@ -3,7 +3,7 @@
 //! pairings are written as there, a pairing with its origins as
 //! `0-3 short, 1-2 step 1 chain`.
 
-use crate::graph::LEAF;
+use crate::graph::{CHAIN, LEAF, RING};
 use crate::inputs::{Entry, Form};
 use crate::lifting::Origin;
 use crate::reference::{self, Pair};
@@ -46,10 +46,15 @@ fn with_origins(n: u64, text: &str) -> Vec<Vec<u8>> {
     reference::lifted_files(n, &pairs)
 }
 
-// Each even cell with the next one, up to so many cells.
-fn couples(n: u64) -> Vec<u8> {
-    let pairs = (0..n / 2).map(|couple| (2 * couple, 2 * couple + 1));
+// Each even cell with the next one, so many pairs in n cells.
+fn first_couples(n: u64, count: u64) -> Vec<u8> {
+    let pairs = (0..count).map(|couple| (2 * couple, 2 * couple + 1));
     reference::pairing_file(n, &pairs.collect::<Vec<_>>())
+}
+
+// The same, up to all cells.
+fn couples(n: u64) -> Vec<u8> {
+    first_couples(n, n / 2)
 }
 
 // The first so many of these pairs in n cells and their origin list, from the origin
@@ -75,6 +80,75 @@ fn all_pairs_of(cells: u64, points: u64) -> Vec<Entry> {
     let pairs = (0..cells).flat_map(|a| (a + 1..cells).map(move |b| [a, b, points]));
     pairs.collect()
 }
+
+// Lists of groups
+
+// The cells of groups of these sizes, one group after the other.
+fn blocks(sizes: &[u64]) -> Vec<Vec<u64>> {
+    let mut first = 0;
+    let mut block = |&cells: &u64| {
+        first += cells;
+        (first - cells..first).collect()
+    };
+    sizes.iter().map(&mut block).collect()
+}
+
+// The cells of so many groups of so many cells, by turns: the first cells of all the
+// groups come first.
+fn by_turns(groups: u64, cells: u64) -> Vec<Vec<u64>> {
+    let group = |first: u64| (0..cells).map(|place| first + place * groups).collect();
+    (0..groups).map(group).collect()
+}
+
+// The list of entries of n cells, in order.
+fn list_of(n: u64, mut entries: Vec<Entry>) -> Vec<u8> {
+    entries.sort();
+    Form::list(n, entries).bytes()
+}
+
+// All pairs of each group, one point each.
+fn all_pairs_within(groups: &[Vec<u64>]) -> Vec<Entry> {
+    let within = |cells: &Vec<u64>| -> Vec<Entry> {
+        let pairs = all_pairs_of(cells.len() as u64, 1).into_iter();
+        let cell = |place: u64| cells[place as usize];
+        pairs
+            .map(|[a, b, points]| [cell(a), cell(b), points])
+            .collect()
+    };
+    groups.iter().flat_map(within).collect()
+}
+
+// The list of all pairs of 12 cells twice over and of other entries, in n cells.
+fn twice_over_and(n: u64, others: &str) -> Vec<u8> {
+    let others = rows::pairs(others).into_iter();
+    let mut entries = all_pairs_within(&blocks(&[12, 12]));
+    entries.extend(others.map(|((a, b), points)| [a, b, points]));
+    list_of(n, entries)
+}
+
+// The list of all pairs of each of these groups, in as many cells as they have.
+fn list_within(groups: &[Vec<u64>]) -> Vec<u8> {
+    list_of(groups.concat().len() as u64, all_pairs_within(groups))
+}
+
+// The list of a path through the cells of each group, one point each.
+fn paths_through(groups: &[Vec<u64>]) -> Vec<u8> {
+    let pair = |two: &[u64]| [two[0].min(two[1]), two[0].max(two[1]), 1];
+    let entries = groups.iter().flat_map(|cells| cells.windows(2).map(pair));
+    list_of(groups.concat().len() as u64, entries.collect())
+}
+
+// 0, then the highest of so many cells and on down to 1: a path that the order of the
+// entries goes against.
+fn down_to_one(cells: u64) -> Vec<u64> {
+    [0].into_iter().chain((1..cells).rev()).collect()
+}
+
+/// What joins all pairs of 12 cells to 12 others: a cell with a leaf, a cell with a
+/// ring, and a chain; each goes with the steps that take it.
+const BY_LEAF: &str = "0-24:1, 12-24:1, 24-25:1";
+const BY_RING: &str = "11-24:1, 12-24:1, 24-25:5, 24-26:1, 25-26:1";
+const BY_CHAIN: &str = "11-24:1, 12-25:1, 24-25:2";
 
 // Lists
 
@@ -139,6 +213,8 @@ pub fn solve_rows() -> Vec<Row> {
     let mut rows = solve_rows_of_lists();
     rows.extend(solve_rows_of_ties());
     rows.extend(solve_rows_of_twelve());
+    rows.extend(solve_rows_of_groups());
+    rows.extend(solve_rows_of_many_groups());
     rows.extend(solve_rows_of_refusals());
     rows.extend(rows::rows_of_buffers(
         vec![FIRST_LIST.to_vec(), rows::CHAIN_ONE.to_vec()],
@@ -197,7 +273,7 @@ fn solve_rows_of_ties() -> Vec<Row> {
     ]
 }
 
-// Twelve cells with pairs left are solved, thirteen are not.
+// A group of twelve cells is solved, one of thirteen is not.
 fn solve_rows_of_twelve() -> Vec<Row> {
     let row = |name: &str, list: Vec<u8>, slip: Vec<u8>, answer| {
         Row::new(name, vec![list, slip], 1, answer)
@@ -229,6 +305,167 @@ fn solve_rows_of_twelve() -> Vec<Row> {
             slip(13, ""),
             Ok(vec![pairing(13, "")]),
         ),
+    ]
+}
+
+// Solving what a slip leaves of a list gives a pairing, or is refused.
+fn solve_row(name: &str, list: Vec<u8>, taken: &str, answer: Result<Vec<u8>, u32>) -> Row {
+    // The header's n stands behind four bits and has eleven.
+    let n = u64::from(u16::from_be_bytes([list[0], list[1]])) >> 1 & 0x7FF;
+    let answer = answer.map(|pairing| vec![pairing]);
+    Row::new(name, vec![list, slip(n, taken)], 1, answer)
+}
+
+// Several groups: each is solved by itself, and 11 is by the largest.
+fn solve_rows_of_groups() -> Vec<Row> {
+    let row = solve_row;
+    vec![
+        solved(4, "0-3:1, 1-2:1", "", "0-3, 1-2"),
+        // In each of two triangles by turns the lowest cell stays unpaired.
+        solved(6, TURNED_TRIANGLES, "", "2-4, 3-5"),
+        // 0-2 and 0-4 are equal, and so are 1-3 and 3-5: the lower partner, then unpaired.
+        solved(6, "0-2:1, 0-4:1, 1-3:1, 3-5:1", "", "0-2, 3-5"),
+        row(
+            "12 cells twice over",
+            twice_over_and(24, ""),
+            "",
+            Ok(couples(24)),
+        ),
+        row(
+            "12 cells twice over, by turns",
+            list_within(&by_turns(2, 12)),
+            "",
+            Ok(reference::pairing_file(24, &couples_by_turns(24))),
+        ),
+        row(
+            "12 and 13 cells",
+            list_within(&blocks(&[12, 13])),
+            "",
+            Err(11),
+        ),
+        row(
+            "13 and 12 cells",
+            list_within(&blocks(&[13, 12])),
+            "",
+            Err(11),
+        ),
+        row(
+            "13 cells and a pair",
+            list_within(&blocks(&[13, 2])),
+            "",
+            Err(11),
+        ),
+        row(
+            "joined by a pair",
+            twice_over_and(24, "11-12:1"),
+            "",
+            Err(11),
+        ),
+        row(
+            "joined by an entry of zero points",
+            twice_over_and(24, "11-12:0"),
+            "",
+            Ok(couples(24)),
+        ),
+        row("joined by a leaf", twice_over_and(26, BY_LEAF), "", Err(11)),
+        row(
+            "after the leaf",
+            twice_over_and(26, BY_LEAF),
+            "leaf 25",
+            Ok(first_couples(26, 12)),
+        ),
+        row(
+            "joined by a chain",
+            twice_over_and(26, BY_CHAIN),
+            "",
+            Err(11),
+        ),
+        row(
+            "after the chain",
+            twice_over_and(26, BY_CHAIN),
+            "chain 24",
+            Ok(first_couples(26, 12)),
+        ),
+        row(
+            "joined by a ring, which is a leaf now",
+            twice_over_and(27, BY_RING),
+            "ring 25",
+            Err(11),
+        ),
+        row(
+            "after the ring and its leaf",
+            twice_over_and(27, BY_RING),
+            "ring 25, leaf 25",
+            Ok(first_couples(27, 12)),
+        ),
+    ]
+}
+
+const TURNED_TRIANGLES: &str = "0-2:1, 0-4:1, 1-3:1, 1-5:1, 2-4:1, 3-5:1";
+
+// The couples of two groups of all pairs by turns: of the even cells 0-2, 4-6, and of the
+// odd ones 1-3, 5-7, and so on.
+fn couples_by_turns(n: u64) -> Vec<Pair> {
+    let fours = (0..n / 4).map(|four| 4 * four);
+    let pairs = fours.flat_map(|first| [(first, first + 2), (first + 1, first + 3)]);
+    pairs.collect()
+}
+
+// As many groups as there can be, and long ones.
+fn solve_rows_of_many_groups() -> Vec<Row> {
+    let row = solve_row;
+    // Each second pair of a path of 12 cells: no other six of its pairs make a pairing.
+    let two_turns = (0..6).flat_map(|two| 170 * two..170 * two + 85);
+    let of_paths: Vec<Pair> = two_turns.map(|cell| (cell, cell + 85)).collect();
+    let down = pairing(12, "0-11, 1-2, 3-4, 5-6, 7-8, 9-10");
+    let late = [vec![12; 60], vec![13]].concat();
+    let mut without_room = row(
+        "11 before 12 in the last group",
+        list_within(&blocks(&late)),
+        "",
+        Err(11),
+    );
+    without_room.room = vec![0];
+    vec![
+        row("512 pairs", list_of_couples(), "", Ok(couples(1024))),
+        row(
+            "256 groups, all pairs of 4 cells",
+            list_within(&blocks(&[4; 256])),
+            "",
+            Ok(couples(1024)),
+        ),
+        row(
+            "85 paths of 12 cells by turns",
+            paths_through(&by_turns(85, 12)),
+            "",
+            Ok(reference::pairing_file(1020, &of_paths)),
+        ),
+        row(
+            "62 groups, all pairs of 12 cells",
+            list_within(&blocks(&[12; 62])),
+            "",
+            Ok(couples(744)),
+        ),
+        row(
+            "60 groups of 12 cells and one of 13",
+            list_within(&blocks(&late)),
+            "",
+            Err(11),
+        ),
+        row(
+            "a path of 12 cells down to 1",
+            paths_through(&[down_to_one(12)]),
+            "",
+            Ok(down),
+        ),
+        row(
+            "a path of 13 cells down to 1",
+            paths_through(&[down_to_one(13)]),
+            "",
+            Err(11),
+        ),
+        row("a path of 1,024 cells", rows::rising_path(), "", Err(11)),
+        without_room,
     ]
 }
 
@@ -723,7 +960,7 @@ fn lift_rows_of_order() -> Vec<Row> {
             pairing(4, "0-3, 0-1"),
             9,
         ),
-        // More than 12 cells left are no matter for lift.
+        // A group of more than 12 cells is no matter for lift.
         row(
             "10 of 13 cells",
             list(13, &all_pairs(13)),
@@ -748,6 +985,7 @@ fn lift_rows_of_order() -> Vec<Row> {
 pub fn pair_rows() -> Vec<Row> {
     let mut rows = pair_rows_of_lists();
     rows.extend(pair_rows_of_size());
+    rows.extend(pair_rows_of_groups());
     rows.extend(pair_rows_of_refusals());
     rows.extend(rows::rows_of_buffers(
         vec![FIRST_LIST.to_vec()],
@@ -801,7 +1039,7 @@ fn pair_rows_of_lists() -> Vec<Row> {
     ]
 }
 
-// Lists of 12 cells left and of the most cells.
+// Lists that leave a group of 12 cells, and lists of the most cells.
 fn pair_rows_of_size() -> Vec<Row> {
     let with_leaf = {
         let mut entries = all_pairs_of(12, 5);
@@ -827,6 +1065,64 @@ fn pair_rows_of_size() -> Vec<Row> {
             "0-1023:7",
             rows::WIDE_LIST.to_vec(),
             vec![WIDE_PAIRING.to_vec(), WIDE_LEAF_ONE.to_vec()],
+        ),
+    ]
+}
+
+// Lists that leave several groups.
+fn pair_rows_of_groups() -> Vec<Row> {
+    let row = |name: &str, list: Vec<u8>, answer: Result<Vec<Vec<u8>>, u32>| {
+        Row::new(name, vec![list], 2, answer)
+    };
+    let short = |n| Ok(couples_from(n, n / 2, |_| Origin::Short));
+    // The couples of both groups, and 24-25 from the step that took it first.
+    let and_one_of = |n, rule| {
+        let first = Origin::Step { number: 1, rule };
+        let origin = |couple| if couple == 12 { first } else { Origin::Short };
+        Ok(couples_from(n, 13, origin))
+    };
+    let turns = couples_by_turns(24).into_iter();
+    let turns: Vec<(Pair, Origin)> = turns.map(|pair| (pair, Origin::Short)).collect();
+    vec![
+        row("12 cells twice over", twice_over_and(24, ""), short(24)),
+        row(
+            "12 cells twice over, by turns",
+            list_within(&by_turns(2, 12)),
+            Ok(reference::lifted_files(24, &turns)),
+        ),
+        row("12 and 13 cells", list_within(&blocks(&[12, 13])), Err(11)),
+        row("13 and 12 cells", list_within(&blocks(&[13, 12])), Err(11)),
+        row("joined by a pair", twice_over_and(24, "11-12:1"), Err(11)),
+        row(
+            "joined by a leaf",
+            twice_over_and(26, BY_LEAF),
+            and_one_of(26, LEAF),
+        ),
+        row(
+            "joined by a chain",
+            twice_over_and(26, BY_CHAIN),
+            and_one_of(26, CHAIN),
+        ),
+        // Leaf 25 puts 24-25 in, then ring 25 puts it in place of itself.
+        row(
+            "joined by a ring",
+            twice_over_and(27, BY_RING),
+            and_one_of(27, RING),
+        ),
+        row(
+            "256 groups, all pairs of 4 cells",
+            list_within(&blocks(&[4; 256])),
+            short(1024),
+        ),
+        row(
+            "62 groups, all pairs of 12 cells",
+            list_within(&blocks(&[12; 62])),
+            short(744),
+        ),
+        row(
+            "60 groups of 12 cells and one of 13",
+            list_within(&blocks(&[vec![12; 60], vec![13]].concat())),
+            Err(11),
         ),
     ]
 }

@@ -25,6 +25,7 @@ pub fn valid_pairing(random: &mut Random, list: &Form, left: &Left) -> Form {
         0 => Form::pairing(list.n, Vec::new()),
         1 => one_pair(random, list.n, &short.entries),
         2..=4 => one_pair(random, list.n, &made_by_steps(list, &short)),
+        // By all cells that are left, not by groups: nearend.rs has digests of these pairings.
         5..=7 if left.graph.cells().count() <= MOST_SOLVED => {
             let pairs = lifting::solve(&left.graph).pairs();
             Form::pairing(list.n, pairs.iter().map(|&(a, b)| [a, b, 0]).collect())

@@ -18,6 +18,7 @@ use std::thread;
 use std::time::{Duration, Instant};
 
 mod graph;
+mod groups;
 mod inputs;
 mod lifting;
 mod printed;
@@ -26,13 +27,14 @@ mod rows;
 mod shapes;
 mod slips;
 
+use groups::Fate;
 use inputs::{Entry, Form, Random};
 use printed::{printed, MOST_READ};
 use rows::{all_pairs, first_pairs, list, raw_list, FIRST_LIST};
 
 const PROGRAM: &str = "target/bin/pairing";
 const SEED: u64 = 20_180_820;
-const LISTS: u64 = 300;
+const LISTS: u64 = 450;
 /// The pause between two pieces of an input.
 const PAUSE: Duration = Duration::from_millis(15);
 /// How often each answer must be met at least.
@@ -47,14 +49,34 @@ pair 2 3 10
 total 20
 ";
 
+/// The whole text for the sample of two makes by turns, twelve cells of each.
+const TEXT_OF_TWICE: &str = "steps 0
+carried 0
+short 132
+pair 0 2 1
+pair 1 3 1
+pair 4 6 1
+pair 5 7 1
+pair 8 10 1
+pair 9 11 1
+pair 12 14 1
+pair 13 15 1
+pair 16 18 1
+pair 17 19 1
+pair 20 22 1
+pair 21 23 1
+total 12
+";
+
 /// The samples with the end of their text, as samples/README.md has them.
-const SAMPLES: [(&str, &str); 8] = [
+const SAMPLES: [(&str, &str); 9] = [
     ("first", "total 20\n"),
     ("triangle", "total 5\n"),
     ("ring-of-four", "pair 0 1 5\npair 2 3 5\ntotal 10\n"),
     ("workshop", "total 11427\n"),
     ("store", "total 306341482\n"),
     ("rig", "total 2750\n"),
+    ("twice", TEXT_OF_TWICE),
     ("thirteen", "refused 11\n"),
     ("damaged", "refused 4\n"),
 ];
@@ -167,16 +189,33 @@ fn run_worked_lists(runs: &mut Runs) {
     runs.compare_worked("a triangle", &triangle, of_triangle);
     runs.compare_worked("0-1:3, 1-2:8", &heaviest_last, of_last);
     runs.compare_worked("all pairs of four cells", &four, of_four);
-    runs.compare_worked("12 cells", &list(12, &all_pairs(12)), &text_of_twelve());
+    runs.compare_worked("12 cells", &beside(&[12]), &text_of_twelve(1));
+    runs.compare_worked("12 cells twice", &beside(&[12, 12]), &text_of_twelve(2));
+    runs.compare_worked("12 cells 62 times", &beside(&[12; 62]), &text_of_twelve(62));
     runs.compare_worked("512 pairs", &couples(), &text_of_couples());
 }
 
-// The text of all pairs of 12 cells with one point each.
-fn text_of_twelve() -> String {
-    let pairs = (0..6).map(|pair| format!("pair {} {} 1\n", 2 * pair, 2 * pair + 1));
+// The list of all pairs of so many cells with one point each, beside all pairs of so
+// many others, and so on.
+fn beside(sizes: &[u64]) -> Vec<u8> {
+    let mut entries: Vec<Entry> = Vec::new();
+    let mut first = 0;
+    for cells in sizes {
+        let end = first + cells;
+        entries.extend((first..end).flat_map(|a| (a + 1..end).map(move |b| [a, b, 1])));
+        first = end;
+    }
+    Form::list(first, entries).bytes()
+}
+
+// The text of all pairs of 12 cells with one point each, so many times over.
+fn text_of_twelve(times: u64) -> String {
+    let pairs = (0..6 * times).map(|pair| format!("pair {} {} 1\n", 2 * pair, 2 * pair + 1));
     format!(
-        "steps 0\ncarried 0\nshort 66\n{}total 6\n",
-        pairs.collect::<String>()
+        "steps 0\ncarried 0\nshort {}\n{}total {}\n",
+        66 * times,
+        pairs.collect::<String>(),
+        6 * times
     )
 }
 
@@ -202,7 +241,7 @@ fn run_worked_refusals(runs: &mut Runs) {
         change(&mut form);
         form.bytes()
     };
-    let refused: [(&str, Vec<u8>, u32); 19] = [
+    let refused: [(&str, Vec<u8>, u32); 21] = [
         ("no input", vec![], 2),
         ("three bytes", FIRST_LIST[..3].to_vec(), 2),
         ("kind 2", first(&|form| form.kind = 2), 2),
@@ -226,6 +265,8 @@ fn run_worked_refusals(runs: &mut Runs) {
         ),
         ("not ascending", first(&|form| form.entries.swap(0, 1)), 6),
         ("13 cells", list(13, &all_pairs(13)), 11),
+        ("12 and 13 cells", beside(&[12, 13]), 11),
+        ("13 and 12 cells", beside(&[13, 12]), 11),
     ];
     for (name, given, number) in refused {
         runs.compare_worked(name, &given, &format!("refused {number}\n"));
@@ -316,7 +357,10 @@ fn run_samples(runs: &mut Runs) {
 fn run_random_lists(runs: &mut Runs, seed: u64, lists: u64) {
     for number in 0..lists {
         let mut random = Random::new(Random::new(seed ^ number.rotate_left(32)).word());
-        let (family, list) = shapes::list_to_lift(&mut random);
+        let (family, list) = match number % 3 {
+            0 => groups::list_of_groups(&mut random, Fate::Kept),
+            _ => shapes::list_to_lift(&mut random),
+        };
         let given = inputs::seldom_bad_list(&mut random, list);
         let name = format!("random list {number} of seed {seed}, {family}");
         let (one, two) = given.split_at(random.place(given.len() + 1));

@@ -1,7 +1,8 @@
 //! The independent implementation: files, refusals and calls, written to be
 //! read and not to be fast. Files are read bit by bit, membership is a map,
-//! a cell that stands twice is found with a set. The working graph and its
-//! steps are in graph.rs, the heaviest pairing and the way back in lifting.rs.
+//! a cell that stands twice is found with a set. The working graph, its groups
+//! and its steps are in graph.rs, the heaviest pairing and the way back in
+//! lifting.rs.
 //!
 //! In order: bits, files, refusals, calls. A new call adds its inputs to
 //! `Input`, its refusals to `holds` and its own function at the end.
@@ -14,7 +15,7 @@ use crate::lifting::{self, Held, Lifted, Origin, Tie};
 pub const WORK_WORDS: usize = 8192;
 pub const MOST_CELLS: u64 = 1024;
 pub const MOST_ENTRIES: u64 = 4096;
-/// The most cells with pairs left that are solved.
+/// The most cells of a group that is solved.
 pub const MOST_SOLVED: usize = 12;
 
 pub const LIST_KIND: u64 = 1;
@@ -434,9 +435,9 @@ fn pairing_is_none_of(pairing: &Pairing, graph: &BTreeMap<Pair, u64>) -> bool {
     false
 }
 
-// Refusal 11: more than 12 cells have pairs left.
-fn too_many_are_left(left: &Left) -> bool {
-    left.graph.cells().count() > MOST_SOLVED
+// Refusal 11: some group of the cells that have pairs left has more than 12 cells.
+fn group_is_too_large(left: &Left) -> bool {
+    left.graph.largest_group() > MOST_SOLVED
 }
 
 // Refusal 13: what is wrong with a raw list, each clause looked at by itself.
@@ -489,7 +490,7 @@ fn holds(number: u32, input: &Input) -> bool {
             .pairing
             .as_ref()
             .is_some_and(|pairing| pairing_is_none_of(pairing, &input.graph)),
-        11 => input.solves && too_many_are_left(&input.left),
+        11 => input.solves && group_is_too_large(&input.left),
         12 => (input.files.iter().zip(&input.room)).any(|(file, &room)| room < file.len()),
         _ => false,
     }
@@ -630,11 +631,11 @@ impl Input {
         input
     }
 
-    // Solves what is left; with too many cells left the pairing stays empty,
+    // Solves what is left; where a group is too large the pairing stays empty,
     // which is the shortest that any could be.
     fn solve_left(&mut self) {
         self.solves = true;
-        if !too_many_are_left(&self.left) {
+        if !group_is_too_large(&self.left) {
             self.short_pairing = lifting::solve(&self.left.graph);
         }
     }

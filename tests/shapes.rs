@@ -56,9 +56,9 @@ const MOST_CORE_CELLS: u64 = 91;
 
 /// Pairs of cells that are numbered as they come.
 #[derive(Default)]
-struct Draft {
-    cells: u64,
-    pairs: BTreeSet<Pair>,
+pub struct Draft {
+    pub cells: u64,
+    pub pairs: BTreeSet<Pair>,
 }
 
 impl Draft {
@@ -68,15 +68,15 @@ impl Draft {
         self.cells - 1
     }
 
-    // One more cell, with a pair to this one.
-    fn cell_at(&mut self, cell: u64) -> u64 {
+    /// One more cell, with a pair to this one.
+    pub fn cell_at(&mut self, cell: u64) -> u64 {
         let next = self.cell();
         self.pair(cell, next);
         next
     }
 
-    // A pair of two different cells.
-    fn pair(&mut self, one: u64, other: u64) {
+    /// A pair of two different cells.
+    pub fn pair(&mut self, one: u64, other: u64) {
         if one != other {
             self.pairs.insert((one.min(other), one.max(other)));
         }
@@ -87,8 +87,8 @@ impl Draft {
         (0..length).fold(from, |last, _| self.cell_at(last))
     }
 
-    // A row of so many new cells between two cells.
-    fn chain(&mut self, from: u64, inner: u64, to: u64) {
+    /// A row of so many new cells between two cells.
+    pub fn chain(&mut self, from: u64, inner: u64, to: u64) {
         let last = self.tail(from, inner);
         self.pair(last, to);
     }
@@ -259,8 +259,8 @@ fn draw_single_cells(random: &mut Random, draft: &mut Draft, size: u64) {
     }
 }
 
-// Cells with all pairs, or most of them, and the first and last of these cells.
-fn draw_core(random: &mut Random, draft: &mut Draft, cells: u64) -> Pair {
+/// Cells with all pairs, or most of them, and the first and last of these cells.
+pub fn draw_core(random: &mut Random, draft: &mut Draft, cells: u64) -> Pair {
     let first = draft.cells;
     let absent_once_in = random.between(2, 12);
     draft.cells += cells;
@@ -552,8 +552,12 @@ fn list_of(random: &mut Random, draft: &Draft) -> Form {
 }
 
 // The list of entries of so many cells, which get new numbers.
-fn numbered(random: &mut Random, cells: u64, mut entries: Vec<Entry>) -> Form {
-    let numbers = numbers(random, cells);
+fn numbered(random: &mut Random, cells: u64, entries: Vec<Entry>) -> Form {
+    renumbered(&numbers(random, cells), entries)
+}
+
+/// The list of entries whose cells get these new numbers.
+pub fn renumbered(numbers: &[u64], mut entries: Vec<Entry>) -> Form {
     for [a, b, _] in &mut entries {
         let (one, other) = (numbers[*a as usize], numbers[*b as usize]);
         (*a, *b) = (one.min(other), one.max(other));
@@ -582,10 +586,10 @@ fn numbers(random: &mut Random, cells: u64) -> Vec<u64> {
 
 // Points
 
-// Gives each pair its points: those of weigh's lists, all equal, few above
-// zero, the largest, rising in order, so that a path or star has as many leaves
-// as cells, or few where a cell has no other pair, so that leaves leave much.
-fn with_points(random: &mut Random, pairs: &[Pair]) -> Vec<Entry> {
+/// Gives each pair its points: those of weigh's lists, all equal, few above
+/// zero, the largest, rising in order, so that a path or star has as many leaves
+/// as cells, or few where a cell has no other pair, so that leaves leave much.
+pub fn with_points(random: &mut Random, pairs: &[Pair]) -> Vec<Entry> {
     let equal = random.one_of(&[1, 5, 1000, LARGEST_POINTS]);
     let ends = cells_of_one_pair(pairs);
     let mut rising = 0;
@@ -608,8 +612,8 @@ fn with_points(random: &mut Random, pairs: &[Pair]) -> Vec<Entry> {
     }
 }
 
-// Entries whose points come from a function of the pair.
-fn points_by(pairs: &[Pair], mut points: impl FnMut(Pair) -> u64) -> Vec<Entry> {
+/// Entries whose points come from a function of the pair.
+pub fn points_by(pairs: &[Pair], mut points: impl FnMut(Pair) -> u64) -> Vec<Entry> {
     let entry = |&(a, b): &Pair| [a, b, points((a, b))];
     pairs.iter().map(entry).collect()
 }

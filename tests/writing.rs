@@ -25,6 +25,8 @@ pub trait Call {
     const CASES: &'static [&'static [&'static str]];
     /// How often each family must be accepted and each case met at least.
     const FEWEST: u64 = 5;
+    /// Cases that the comparison is made for, and how often each must be met at least.
+    const MADE_FOR: (u64, &'static [&'static str]) = (0, &[]);
 
     /// The worked rows.
     fn rows() -> Vec<Row>;
@@ -99,6 +101,7 @@ pub struct Comparison<C: Call> {
     families: Tally,
     accepted_families: Tally,
     cases: Tally,
+    made_for: Tally,
     steps: usize,
     most_steps: usize,
     time: Duration,
@@ -115,6 +118,7 @@ impl<C: Call> Comparison<C> {
             families: tally("calls by family of the list", C::FAMILIES),
             accepted_families: tally("accepted calls by family", C::FAMILIES),
             cases: tally("special cases", &names),
+            made_for: Tally::at_least(C::MADE_FOR.0, "what the calls are made for", C::MADE_FOR.1),
             steps: 0,
             most_steps: 0,
             time: Duration::ZERO,
@@ -185,7 +189,10 @@ impl<C: Call> Comparison<C> {
             Err(number) => self.counts.refuse(given.work, *number, &input.refusals()),
         }
         for case in C::cases(input, given.work, &given.room, answer) {
-            self.cases.meet(case);
+            match self.made_for.has(case) {
+                true => self.made_for.meet(case),
+                false => self.cases.meet(case),
+            }
         }
         if answer.is_ok() {
             self.steps += input.steps.len();
@@ -238,6 +245,9 @@ impl<C: Call> Comparison<C> {
         self.families.print();
         self.accepted_families.print();
         self.cases.print();
+        if !C::MADE_FOR.1.is_empty() {
+            self.made_for.print();
+        }
         if self.steps > 0 {
             println!(
                 "steps of accepted calls {}, most in one {}",
@@ -248,6 +258,7 @@ impl<C: Call> Comparison<C> {
         let mut short = self.counts.shortfalls();
         short.extend(self.accepted_families.shortfalls());
         short.extend(self.cases.shortfalls());
+        short.extend(self.made_for.shortfalls());
         short
             .iter()
             .map(|line| format!("{}: {line}", C::NAME))

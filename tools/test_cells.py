@@ -60,6 +60,12 @@ def sample_list(name):
     return tidied(*cells.parse_raw(text)) if name == "rig" else cells.parse_list(text)
 
 
+def printed_in_readme(name):
+    """What the program prints for a sample, as the samples' README has it."""
+    text = sample("README.md").decode().split(f"- **{name}**")[1].split("\n- **")[0]
+    return "\n".join(re.findall(r"^ {6}(\w.*)$", text, re.MULTILINE))
+
+
 def tidied(n, runs):
     """The cells and the entries of the store list of a rig's runs: of each pair the points of its last run."""
     points = {frozenset(run[:2]): run[2] for run in runs}
@@ -527,7 +533,7 @@ class Samples(Refusing):
             self.assertEqual(row[:2], [str(n), str(len(entries))], name)
 
     def test_totals_in_the_table(self):
-        for name in ("first", "triangle", "ring-of-four", "workshop", "rig"):
+        for name in ("first", "triangle", "ring-of-four", "workshop", "rig", "twice"):
             _, entries = sample_list(name)
             self.assertEqual(self.rows()[name][5], str(heaviest(entries)), name)
 
@@ -555,10 +561,19 @@ class Samples(Refusing):
         self.assertEqual(cells.read_file(sample("rig.bin"))[3][0], (0, 1, 600))
         self.wrong("line 10: the pair 0-1 is given in line 8 already", cells.parse_list, sample("rig.txt").decode())
 
-    def test_what_is_printed_for_the_rigs_list(self):
-        printed = "\n".join(re.findall(r"^ {6}(\w.*)$", sample("README.md").decode(), re.MULTILINE))
-        self.assertEqual(cells.draw(sample("rig.bin"), printed.encode()).count("bold"), 4)
-        self.assertEqual(cells.parse_printed(printed)[1], 2750)
+    def test_what_is_printed(self):
+        for name, pairs, total in (("rig", 4, 2750), ("twice", 12, 12)):
+            printed = printed_in_readme(name)
+            self.assertEqual(cells.draw(sample(name + ".bin"), printed.encode()).count("bold"), pairs)
+            self.assertEqual(cells.parse_printed(printed)[1], total)
+
+    def test_the_two_makes(self):
+        """Two groups of twelve cells with all pairs; of all pairings of six pairs each, the lowest partners."""
+        _, entries = sample_list("twice")
+        self.assertEqual(groups(entries), [tuple(range(0, 24, 2)), tuple(range(1, 24, 2))])
+        self.assertEqual(len(entries), 2 * (12 * 11 // 2))
+        pairs = [(a, b) for a, b, _ in cells.parse_printed(printed_in_readme("twice"))[0]]
+        self.assertEqual(pairs, [(a, a + 2) for a in range(24) if a % 4 < 2])
 
     def test_every_list_is_drawn(self):
         for name in self.rows():

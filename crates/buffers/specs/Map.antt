@@ -2,9 +2,9 @@
 -- these.
 use Prim.Native.Nat.{ℕ}
 
--- First buffer: the weights of the slots stand from 0 on, and from here on the words of their cells. While a set of
--- cells is solved the table of its sets stands there; after the way back, behind the pairs, their records of the origin
--- list.
+-- First buffer: the weights of the slots stand from 0 on, and from here on the words of their cells; after the steps
+-- the row words of the pairs left and their lower cells. While a group is solved the table of its sets stands in place
+-- of the lower cells; after the way back, behind the pairs, their records of the origin list.
 abbrev pub atCells : ℕ
 atCells = 4096
 
@@ -31,12 +31,23 @@ atNames = 6144
 abbrev pub atTable : ℕ
 atTable = 7168
 
--- Where the table will stand, before it is filled, for crate sets: the points between the places, and their cells.
+-- While groups are solved, behind the trail: for each cell the start of the run of its rows; for crate sets the points
+-- between the places of a group, and their cells; for each cell its label and link. Of a word of the last: one of the
+-- link.
+abbrev pub atStarts : ℕ
+atStarts = 4096
+
 abbrev pub atPoints : ℕ
-atPoints = 7168
+atPoints = 5120
 
 abbrev pub atPlaces : ℕ
-atPlaces = 7312
+atPlaces = 5264
+
+abbrev pub atLabels : ℕ
+atLabels = 6144
+
+abbrev pub linkField : ℕ
+linkField = 2048
 
 -- A word of the table is a partner below the stamp of where the pair came from: one of the stamp.
 abbrev pub partnerField : ℕ

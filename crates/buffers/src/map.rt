@@ -3,9 +3,9 @@
 // The words that a call needs of each buffer.
 pub const WORDS: usize = 8192;
 
-// First buffer: the weights of the slots stand from 0 on, and from here on the words of their cells. While a set of
-// cells is solved the table of its sets stands there; after the way back, behind the pairs, their records of the origin
-// list.
+// First buffer: the weights of the slots stand from 0 on, and from here on the words of their cells; after the steps
+// the row words of the pairs left and their lower cells. While a group is solved the table of its sets stands in place
+// of the lower cells; after the way back, behind the pairs, their records of the origin list.
 pub const CELL_WORDS: usize = 4096;
 
 pub const SETS: usize = 4096;
@@ -24,10 +24,17 @@ pub const NAMES: usize = 6144;
 
 pub const TABLE: usize = 7168;
 
-// Where the table will stand, before it is filled, for crate sets: the points between the places, and their cells.
-pub const POINTS: usize = 7168;
+// While groups are solved, behind the trail: for each cell the start of the run of its rows; for crate sets the points
+// between the places of a group, and their cells; for each cell its label, and above it its link.
+pub const STARTS: usize = 4096;
 
-pub const PLACES: usize = 7312;
+pub const POINTS: usize = 5120;
+
+pub const PLACES: usize = 5264;
+
+pub const LABELS: usize = 6144;
+
+pub const LINK_FIELD: u64 = 2048;
 
 // A row word is a cell above the points of a pair: one of the cell.
 pub const POINTS_UNIT: u64 = 18014398509481984;

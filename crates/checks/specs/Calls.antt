@@ -23,7 +23,8 @@ answered (Two first second) = (0, first ∷ second ∷ [])
 abbrev pub callRows : Bool → List ℕ → List Row
 callRows few list = (1, few) ∷ listRows lists list
 
--- Rows that calls have of their own: 9 and 10 of a pairing for a graph of n cells, and 11 of the cells left.
+-- Rows that calls have of their own: 9 and 10 of a pairing for a graph of n cells, and 11 of the largest group
+-- of the cells left.
 abbrev pub formRow : ℕ → List ℕ → Row
 formRow n pairing = (9, badPairing n pairing)
 
@@ -31,7 +32,7 @@ abbrev pub holdRow : Points → List ℕ → Row
 holdRow there pairing = (10, noPairing there (pairsOf pairing))
 
 abbrev pub crowdedRow : ℕ → Row
-crowdedRow left = (11, crowded left)
+crowdedRow largest = (11, crowded largest)
 
 abbrev pub roomRow : List (ℕ × List ℕ) → Row
 roomRow outs = (12, shortOutput outs)

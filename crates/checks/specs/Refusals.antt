@@ -99,9 +99,9 @@ badPairing n s =
 abbrev pub noPairing : Points → List Pair → Bool
 noPairing there m = not (isPairing there m)
 
--- 11. 'More than 12 cells have pairs left.'
+-- 11. 'Some connected group of the remaining cells has more than 12': given how many cells the largest has.
 abbrev pub crowded : ℕ → Bool
-crowded left = ltb 12 left
+crowded largest = ltb 12 largest
 
 -- 12. 'An output is shorter than its file.' Given the room of each output and its file.
 unfoldable pub shortOutput : List (ℕ × List ℕ) → Bool

@@ -8,11 +8,12 @@ use mathlib.Core.Option.{Option, some, none}
 use Prim.Native.Nat.{ℕ, _≤_}
 use native.Mathlib.Omega.{arith}
 use lib.ListN.{length, getD}
-use borrow.Author.Tests.{lt-ltb, ltb-true, ltb-false}
+use borrow.Author.Tests.{ltb-false}
 use Rattle.matching.specs.Lists.{All}
-use Rattle.matching.specs.Graph.{cellsLeft}
+use Rattle.matching.specs.Groups.{largest}
 use Rattle.matching.specs.Steps.{Step}
 use Rattle.matching.specs.Slip.{SomeStepNot}
+use Rattle.matching.proofs.Tests.{holds, passes, notT}
 use Rattle.matching.proofs.Reduce.{replay-not}
 use Rattle.cellfile.specs.Files.{cellsOf, stepsOf, pairsOf, asName}
 use Rattle.checks.specs.Refusals.{Row, first, fewWords, rules, badSlip, disallowed, noPairing, crowded}
@@ -25,14 +26,14 @@ use Rattle.weighing.proofs.Weights.{weigh-sound}
 use Rattle.starting.specs.Steps.{graphIn, stepsOn, stand, slipRows, reduceSteps}
 use Rattle.reduction.specs.Calls.{replayShort}
 use Rattle.starting.proofs.OnList.{list-graph}
-use Rattle.lifting.specs.Calls.{graphAfter, bySteps, cellsAfter, liftRows, liftFile, liftOrigins, solveRows}
+use Rattle.lifting.specs.Calls.{graphAfter, bySteps, largestAfter, liftRows, liftFile, liftOrigins, solveRows}
 use Rattle.lifting.specs.Calls.{solveFile, pairRows, pairingFile, pairingOrigins}
 use Rattle.claims.specs.Demand.{AcceptedList, Allowed}
-use Rattle.claims.specs.Claims.{leftCells, reduceSlip, reduceShort, Wrote, ZeroTells, Eight, RefusalsTell}
+use Rattle.claims.specs.Claims.{reduceSlip, reduceShort, Wrote, ZeroTells, Eight, RefusalsTell}
 use Rattle.claims.proofs.Slips.{named}
 use Rattle.claims.proofs.Demand.{withRoom, withRooms, stands, ten-just}
-use Rattle.claims.proofs.Solved.{same-count}
-use Rattle.claims.proofs.Paired.{same-left}
+use Rattle.claims.proofs.Solved.{solve-crowded}
+use Rattle.claims.proofs.Paired.{pair-crowded}
 
 -- ---- the answer 0
 
@@ -116,7 +117,7 @@ zero-tells = record {
       (length (solveFile list slip) ∷ []) (omega arith) e in
       let h = allowed-of list slip (a .1) (a .2 .0) (a .2 .1 .0) in (
         h,
-        ltb-false 12 (leftCells list slip) (ap crowded (sym (same-count list slip h)) ∙ a .2 .1 .1 .0),
+        holds (notT (solve-crowded list slip h)) (ap not (a .2 .1 .1 .0)),
         wrote (a .0) (a .2 .1 .1 .1 .0) (a .3),
       )
       );
@@ -126,7 +127,7 @@ zero-tells = record {
       (i ∷ j ∷ []) (length (pairingFile list) ∷ length (pairingOrigins list) ∷ []) (omega arith) e in
       let both = wrote-both (a .0) (a .2 .1 .0) (a .3) in (
         a .1,
-        ltb-false 12 (leftCells list (reduceSlip list)) (ap crowded (sym (same-left list (a .1))) ∙ a .2 .0),
+        holds (notT (pair-crowded list (a .1))) (ap not (a .2 .0)),
         both .0,
         both .1,
       )
@@ -179,7 +180,7 @@ refusals-tell = record {
   eight = λ list slip. (
     eight list slip (λ room. roomRow ((room, replayShort list slip) ∷ []) ∷ []) (length (replayShort list slip) ∷ [])
         (λ room. ((λ e. omega arith), tt)),
-    eight list slip (λ room. crowdedRow (cellsAfter list slip) ∷ roomRow ((room, solveFile list slip) ∷ []) ∷ [])
+    eight list slip (λ room. crowdedRow (largestAfter list slip) ∷ roomRow ((room, solveFile list slip) ∷ []) ∷ [])
         (length (solveFile list slip) ∷ []) (λ room. ((λ e. omega arith), ((λ e. omega arith), tt))),
     (λ pairing originRoom. eight list slip (λ room. formRow (cellsOf list) pairing
         ∷ holdRow (bySteps list slip (graphIn list) (graphAfter list)) pairing
@@ -210,39 +211,28 @@ refusals-tell = record {
   eleven-solve = λ list slip lent room. (
       let just =
       call-refused list lent (slipRows list slip) (roomRow ((room, solveFile list slip) ∷ []) ∷ []) 11
-      (crowded (cellsAfter list slip)) (length (solveFile list slip) ∷ []) (omega arith)
+      (crowded (largestAfter list slip)) (length (solveFile list slip) ∷ []) (omega arith)
       ((λ e. omega arith), ((λ e. omega arith), tt)) ((λ e. omega arith), tt) in (
         (λ e. (
             let s = just .0 e in
             let h = allowed-of list slip (s .1) (s .2 .0) (s .2 .1 .0) in
-            (s .0, h, ltb-true 12 (leftCells list slip) (ap crowded (sym (same-count list slip h)) ∙ s .3))
+            (s .0, h, holds (solve-crowded list slip h) (s .3))
             )),
         (λ s. just .1 (
           s .0,
           s .1 .accepted,
           (s .1 .formed, (ap not (stands list slip (s .1)), tt)),
-          ap crowded (same-count list slip (s .1)) ∙ lt-ltb 12 (leftCells list slip) (s .2),
+          passes (solve-crowded list slip (s .1)) (λ f. f (s .2)),
         )),
       )
       );
   eleven-pair = λ list lent room originRoom. (
       let just =
       call-refused list lent [] (roomRow ((room, pairingFile list) ∷ (originRoom, pairingOrigins list) ∷ []) ∷ []) 11
-      (crowded (cellsLeft (cellsOf list) (graphAfter list (reduceSteps list))))
+      (crowded (largest (cellsOf list) (graphAfter list (reduceSteps list))))
       (length (pairingFile list) ∷ length (pairingOrigins list) ∷ []) (omega arith) tt ((λ e. omega arith), tt) in (
-        (λ e. (
-            let s = just .0 e in (
-              s .0,
-              s .1,
-              ltb-true 12 (leftCells list (reduceSlip list)) (ap crowded (sym (same-left list (s .1))) ∙ s .3),
-            )
-            )),
-        (λ s. just .1 (
-          s .0,
-          s .1,
-          tt,
-          ap crowded (same-left list (s .1)) ∙ lt-ltb 12 (leftCells list (reduceSlip list)) (s .2),
-        )),
+        (λ e. let s = just .0 e in (s .0, s .1, holds (pair-crowded list (s .1)) (s .3))),
+        (λ s. just .1 (s .0, s .1, tt, passes (pair-crowded list (s .1)) (λ f. f (s .2)))),
       )
       );
 }

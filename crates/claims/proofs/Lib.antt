@@ -3,6 +3,7 @@ pub mod Slips
 pub mod Demand
 pub mod Origins
 pub mod Claims
+pub mod Crowds
 pub mod Solved
 pub mod Paired
 pub mod Answers

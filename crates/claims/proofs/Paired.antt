@@ -1,13 +1,14 @@
--- Pair: `pair-claim`. It is reduce, solve and lift (`three-calls`), and so what these say holds of it. Assumes nothing.
+-- Pair: `pair-claim`. The row of refusal 11 tells whether what reduce leaves is crowded (`pair-crowded`). Pair is
+-- reduce, solve and lift (`three-calls`), and so what these say holds of it. Assumes nothing.
 use mathlib.Core.Path.{_≡_, sym, ap, subst, _∙_}
 use mathlib.Core.List.{List, [], _∷_, map}
-use Prim.Native.Nat.{ℕ, _+_, _≤_}
+use Prim.Native.Nat.{ℕ, _+_}
 use native.Mathlib.Omega.{arith}
 use lib.ListN.{length}
-use borrow.Author.Tests.{le-ltb}
 use Rattle.matching.specs.Listed.{points}
-use Rattle.matching.specs.Graph.{cellsLeft}
+use Rattle.matching.specs.Groups.{largest}
 use Rattle.matching.specs.Steps.{name}
+use Rattle.matching.proofs.Tests.{Test, fails}
 use Rattle.cellfile.specs.Files.{cellsOf, pairsOf, carriedOf}
 use Rattle.checks.specs.Refusals.{crowded}
 use Rattle.weighing.specs.Weigh.{weighing}
@@ -17,11 +18,12 @@ use Rattle.reduction.proofs.Reducing.{reduce-allowed}
 use Rattle.lifting.specs.Calls.{graphAfter, liftedFile, liftedOrigins, solveFile, liftFile, liftOrigins}
 use Rattle.lifting.specs.Calls.{pairRows, pairingFile, pairingOrigins, pairing}
 use Rattle.claims.specs.Demand.{AcceptedList, storeOf, shortOf, HeaviestOf, WritesBoth, Allowed, Liftable}
-use Rattle.claims.specs.Claims.{leftCells, reduceSlip, OriginClaim, SolveClaim, LiftClaim, PairClaim}
+use Rattle.claims.specs.Claims.{Crowded, reduceSlip, OriginClaim, SolveClaim, LiftClaim, PairClaim}
 use Rattle.claims.proofs.Slips.{slip-allowed, short-graph}
 use Rattle.claims.proofs.Demand.{withRooms, rooms-enough, same-lifted, demand-three}
 use Rattle.claims.proofs.Origins.{same-origins}
 use Rattle.claims.proofs.Claims.{lift-claim, reduce-claim}
+use Rattle.claims.proofs.Crowds.{largestLeft, crowdedT}
 use Rattle.claims.proofs.Solved.{solve-read, solve-claim}
 
 module _ (list : List ℕ) (h : AcceptedList list) where
@@ -31,9 +33,15 @@ module _ (list : List ℕ) (h : AcceptedList list) where
   abbrev allowed : Allowed list slip
   allowed = slip-allowed list h (map name (reduceSteps list)) (reduceSteps list) (reduce-allowed list h)
 
-  -- the rows of pair count the cells of the short list that reduce writes
-  pub same-left : cellsLeft (cellsOf list) (graphAfter list (reduceSteps list)) ≡ leftCells list (reduceSlip list)
-  same-left = ap (cellsLeft (cellsOf list)) (sym (short-graph list slip allowed))
+  -- the rows of pair count the largest group of the short list that reduce writes
+  same-left : largest (cellsOf list) (graphAfter list (reduceSteps list)) ≡ largestLeft list (reduceSlip list)
+  same-left = ap (largest (cellsOf list)) (sym (short-graph list slip allowed))
+
+  pub pair-crowded : Test (Crowded list (reduceSlip list)) (Crowded list (reduceSlip list) → ⊥)
+      (crowded (largest (cellsOf list) (graphAfter list (reduceSteps list))))
+  pair-crowded =
+      subst (λ (v : ℕ). Test (Crowded list slip) (Crowded list slip → ⊥) (crowded v)) (sym same-left)
+      (crowdedT list slip)
 
   solve : SolveClaim list slip
   solve = solve-claim list slip allowed
@@ -55,12 +63,12 @@ module _ (list : List ℕ) (h : AcceptedList list) where
       ap (liftedOrigins list (reduceSteps list)) (sym (solve-read list slip allowed))
       ∙ sym (same-origins list slip allowed (solveFile list slip) liftable)
 
-  pair-writes : leftCells list (reduceSlip list) ≤ 12
+  pair-writes : (Crowded list (reduceSlip list) → ⊥)
       → WritesBoth (pairing list) (pairingFile list) (pairingOrigins list)
   pair-writes few lent room further enough l k =
       call-passes list lent (withRooms (pairRows list) room further (pairingFile list) (pairingOrigins list))
       (length (pairingFile list) ∷ length (pairingOrigins list) ∷ []) enough h (
-        ap crowded same-left ∙ le-ltb 12 (leftCells list slip) few,
+        fails pair-crowded few,
         (rooms-enough room further (pairingFile list) (pairingOrigins list) l k, tt),
       )
 

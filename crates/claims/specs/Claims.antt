@@ -10,10 +10,11 @@ use mathlib.Core.List.{List, [], _∷_, map}
 use Prim.Native.Nat.{ℕ, _+_, _≤_, _<_}
 use lib.ListN.{length}
 use Rattle.matching.specs.Lists.{All, together}
-use Rattle.matching.specs.Pairs.{Pair, Each}
+use Rattle.matching.specs.Pairs.{Pair, Points, Each}
 use Rattle.matching.specs.Pairing.{First}
 use Rattle.matching.specs.Listed.{Entry, Accepted, listed, points, shortList, filed}
-use Rattle.matching.specs.Graph.{cellsLeft}
+use Rattle.matching.specs.Graph.{degree}
+use Rattle.matching.specs.Groups.{group, groups, solveEach}
 use Rattle.matching.specs.Steps.{Rule, Step}
 use Rattle.matching.specs.Ties.{Lifts}
 use Rattle.matching.specs.Origin.{Origins, CameFrom}
@@ -38,9 +39,15 @@ reduceSlip list = slipFile list (reduceSteps list)
 abbrev pub reduceShort : List ℕ → List ℕ
 reduceShort list = shortFile list (reduceSteps list)
 
--- How many cells have pairs left in the short list that replay writes.
-abbrev pub leftCells : (list slip : List ℕ) → ℕ
-leftCells list slip = cellsLeft (cellsOf list) (listed (shortOf (replayShort list slip)))
+-- The points that the short list that replay writes gives two cells.
+abbrev pub pointsLeft : (list slip : List ℕ) → Points
+pointsLeft list slip = listed (shortOf (replayShort list slip))
+
+-- 'Some connected group of the remaining cells has more than 12': that of a cell which has pairs in the short list.
+abbrev pub Crowded : (list slip : List ℕ) → Type 0
+Crowded list slip =
+    (c : ℕ) × (c < cellsOf list) × (0 < degree (cellsOf list) (pointsLeft list slip) c)
+    × (12 < length (group (cellsOf list) (pointsLeft list slip) c))
 
 -- ---- what the answers 0, 8, 10 and 11 tell
 
@@ -65,9 +72,9 @@ pub record ZeroTells : Type 0 where
       → reducing list lent slipRoom shortRoom ≡ (0, i ∷ j ∷ [])
       → AcceptedList list × Wrote (reduceSlip list) lent slipRoom i × Wrote (reduceShort list) lent shortRoom j
   pub solve : (list slip lent : List ℕ) (room i : ℕ) → solving list slip lent room ≡ (0, i ∷ [])
-      → Allowed list slip × (leftCells list slip ≤ 12) × Wrote (solveFile list slip) lent room i
+      → Allowed list slip × (Crowded list slip → ⊥) × Wrote (solveFile list slip) lent room i
   pub pair : (list lent : List ℕ) (room originRoom i j : ℕ) → pairing list lent room originRoom ≡ (0, i ∷ j ∷ [])
-      → AcceptedList list × (leftCells list (reduceSlip list) ≤ 12) × Wrote (pairingFile list) lent room i
+      → AcceptedList list × (Crowded list (reduceSlip list) → ⊥) × Wrote (pairingFile list) lent room i
       × Wrote (pairingOrigins list) lent originRoom j
 
 -- 8 just where 'some step of the slip is not allowed where it stands', and nothing before it is refused.
@@ -77,8 +84,8 @@ Eight list slip call =
     ↔ ((fewWords lent ≡ false) × AcceptedList list × (badSlip rules (cellsOf list) slip ≡ false)
     × SomeStepNot (cellsOf list) (graphIn list) (map asName (stepsOf slip)))
 
--- 10 just where the pairing is not one of the short list, 11 just where 'more than 12 cells have pairs left', and
--- nothing before it is refused.
+-- 10 just where the pairing is not one of the short list, 11 just where 'some connected group of the remaining cells
+-- has more than 12', and nothing before it is refused.
 pub record RefusalsTell : Type 0 where
   pub eight : (list slip : List ℕ) → Eight list slip (replaying list slip) × Eight list slip (solving list slip)
       × ((pairing : List ℕ) (originRoom : ℕ)
@@ -88,9 +95,9 @@ pub record RefusalsTell : Type 0 where
       ↔ ((fewWords lent ≡ false) × Allowed list slip × (badPairing (cellsOf list) pairing ≡ false)
       × (PairingOf (shortOf (replayShort list slip)) (pairsOf pairing) → ⊥))
   pub eleven-solve : (list slip lent : List ℕ) (room : ℕ) → (solving list slip lent room ≡ (11, []))
-      ↔ ((fewWords lent ≡ false) × Allowed list slip × (12 < leftCells list slip))
+      ↔ ((fewWords lent ≡ false) × Allowed list slip × Crowded list slip)
   pub eleven-pair : (list lent : List ℕ) (room originRoom : ℕ) → (pairing list lent room originRoom ≡ (11, []))
-      ↔ ((fewWords lent ≡ false) × AcceptedList list × (12 < leftCells list (reduceSlip list)))
+      ↔ ((fewWords lent ≡ false) × AcceptedList list × Crowded list (reduceSlip list))
 
 -- ---- the hypotheses are met
 
@@ -181,24 +188,27 @@ pub record ReduceClaim (list : List ℕ) : Type 0 where
 
 -- ---- solve
 
--- What solve writes where at most 12 cells have pairs left, at most 1,540 bytes: a heaviest pairing of the short list,
--- and of those the first by partners; lift takes it.
+-- What solve writes where no connected group of the cells left has more than 12, at most 1,540 bytes: a heaviest
+-- pairing of the short list, and of those the first by partners, which is that of the groups solved one by one, joined;
+-- lift takes it.
 pub record SolveClaim (list slip : List ℕ) : Type 0 where
-  pub writes : leftCells list slip ≤ 12 → Writes (solving list slip) (solveFile list slip)
+  pub writes : (Crowded list slip → ⊥) → Writes (solving list slip) (solveFile list slip)
   pub liftable : Liftable list slip (solveFile list slip)
   pub heaviest : HeaviestOf (shortOf (replayShort list slip)) (pairsOf (solveFile list slip))
   pub foremost : (m : List Pair) → HeaviestOf (shortOf (replayShort list slip)) m
       → First (pairsOf (solveFile list slip)) m
+  pub joined : pairsOf (solveFile list slip)
+      ≡ filed (solveEach (pointsLeft list slip) (groups (cellsOf list) (pointsLeft list slip)))
   pub longest : length (solveFile list slip) ≤ 1540
 
 -- ---- pair
 
--- What pair writes where at most 12 cells have pairs left after reduce: what lift makes, with the slip that reduce
--- writes, of the pairing that solve writes with that slip, so with the ties of both. It is a heaviest pairing of the
--- store, and weigh answers the points of solve's pairing in the short list plus the carried points. Beside it the
--- origin list that lift makes, by the steps of reduce.
+-- What pair writes where no connected group of the cells left after reduce has more than 12: what lift makes, with the
+-- slip that reduce writes, of the pairing that solve writes with that slip, so with the ties of both. It is a heaviest
+-- pairing of the store, and weigh answers the points of solve's pairing in the short list plus the carried points.
+-- Beside it the origin list that lift makes, by the steps of reduce.
 pub record PairClaim (list : List ℕ) : Type 0 where
-  pub writes : leftCells list (reduceSlip list) ≤ 12
+  pub writes : (Crowded list (reduceSlip list) → ⊥)
       → WritesBoth (pairing list) (pairingFile list) (pairingOrigins list)
   pub composed : (pairingFile list ≡ liftFile list (reduceSlip list) (solveFile list (reduceSlip list)))
       × (pairingOrigins list ≡ liftOrigins list (reduceSlip list) (solveFile list (reduceSlip list)))

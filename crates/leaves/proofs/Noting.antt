@@ -13,7 +13,7 @@ use Rattle.matching.specs.Pairs.{Points}
 use Rattle.matching.specs.Steps.{leaf, apply}
 use Rattle.slots.specs.Slots.{Aside}
 use Rattle.trail.specs.Trail.{closing, stepWords, trail}
-use Rattle.trail.proofs.TakenRow.{take-same, drop-same}
+use Rattle.buffers.proofs.Same.{take-same, drop-same}
 use Rattle.leaves.specs.Runs.{leavesAt, Words, leafWords}
 
 -- ---- a part that is filled

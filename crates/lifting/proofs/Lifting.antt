@@ -64,7 +64,7 @@ module _ {n e t count : ℕ} {pairing : List ℕ} {k : ℕ} {w1 w2 : List ℕ}
     abbrev entered : ReturnThere n t count w1 v2
     entered =
         return-there (h .tail .on) w1 v2 (pairsOf pairing) (h .tail .holds .room1) (h .tail .holds .room2) same
-        (there .aside) is (there .mates q)
+        (λ j l. there .aside j (omega arith)) is (there .mates q)
 
     pub ten-there : ReturnThere n t count w1 v2
     ten-there = entered

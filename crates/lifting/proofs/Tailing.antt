@@ -1,7 +1,7 @@
--- Pair after its steps. In order: what is left may be solved (`tail-left`), its solution entered (`tail-words`) and
--- brought back (`tail-returns`); the answers (`tail-crowded`, `tail-passed`); reduce leaves what this asks
+-- Pair after its steps. In order: what is left may be solved (`tail-left`), and its solution brought back
+-- (`tail-returns`); the answers (`tail-crowded`, `tail-passed`); reduce leaves what this asks
 -- (`reduce-tail`), and so it is what pair is to answer (`pair-passed`). Assumes nothing.
-use mathlib.Core.Path.{_≡_, refl, subst, _∙_}
+use mathlib.Core.Path.{_≡_, refl, subst}
 use mathlib.Core.Bool.{Bool}
 use mathlib.Core.List.{List, [], _∷_, _++_}
 use mathlib.Core.Option.{some}
@@ -10,11 +10,8 @@ use native.Mathlib.Omega.{arith}
 use lib.ListN.{length}
 use borrow.Author.Tests.{lt-ltb, le-ltb}
 use Rattle.matching.specs.Pairs.{Pair, Points}
-use Rattle.matching.specs.Graph.{Graph, cellsLeft}
+use Rattle.matching.specs.Graph.{Graph}
 use Rattle.matching.specs.Steps.{Step}
-use Rattle.matching.specs.Origin.{allShort}
-use Rattle.matching.proofs.Sums.{each-map}
-use Rattle.matching.proofs.Put.{pair-below, pair-apart}
 use Rattle.cellfile.specs.Files.{cellsOf}
 use Rattle.checks.specs.Refusals.{first}
 use Rattle.cellfile.specs.Answers.{Answer}
@@ -25,8 +22,8 @@ use Rattle.checks.specs.Calls.{callRows, crowdedRow}
 use Rattle.checks.specs.Answering.{Does}
 use Rattle.checks.proofs.Answering.{refused, passed}
 use Rattle.reduction.proofs.Reducing.{reduce-allowed, reduce-after}
-use Rattle.partners.specs.Table.{Mates, TrailKept, WordsThere}
 use Rattle.matching.specs.Solve.{solution}
+use Rattle.matching.specs.Groups.{largest}
 use Rattle.lifting.specs.Calls.{graphAfter, pairRows, pairingFile, pairingOrigins}
 use Rattle.solving.specs.Left.{LeftThere, SolvedIn}
 use Rattle.lifting.specs.Ending.{Change, backTo, ReturnThere, Returns}
@@ -56,46 +53,32 @@ module _ {n e t count : ℕ} {w1 w2 : List ℕ} (p : TailThere n e t count w1 w2
   }
 
   -- more than 12 cells
-  pub tail-crowded : (out from : List ℕ) → 12 < cellsLeft n (graphOf e w1)
-      → Does (crowdedRow (cellsLeft n g) ∷ []) (backTo n (p .on .w) (p .on .steps) best (out, out) (from, from))
+  pub tail-crowded : (out from : List ℕ) → 12 < largest n (graphOf e w1)
+      → Does (crowdedRow (largest n g) ∷ []) (backTo n (p .on .w) (p .on .steps) best (out, out) (from, from))
       (11, [])
   tail-crowded out from l =
-      let k : 12 < cellsLeft n g = subst (λ (v : Points). 12 < cellsLeft n v) (p .left-is) l in
-      refused (crowdedRow (cellsLeft n g) ∷ []) [] 0 [] (rw (lt-ltb 12 (cellsLeft n g) k)) (refl, (refl, tt))
+      let k : 12 < largest n g = subst (λ (v : Points). 12 < largest n v) (p .left-is) l in
+      refused (crowdedRow (largest n g) ∷ []) [] 0 [] (rw (lt-ltb 12 (largest n g) k)) (refl, (refl, tt))
 
   -- solved
-  module _ {r : ℕ} {w1a w2a : List ℕ} (same1 : length w1a ≡ length w1) (same2 : length w2a ≡ length w2)
-      (s : SolvedIn n (graphOf e w1) w1a w2 w2a r) where
-    solved : SolvedIn n g w1a w2 w2a r
-    solved = subst (λ (v : Points). SolvedIn n v w1a w2 w2a r) (p .left-is) s
+  module _ {v : ℕ} {w2a : List ℕ} (s : SolvedIn n (graphOf e w1) w2 w2a v) where
+    solved : SolvedIn n g w2 w2a v
+    solved = subst (λ (u : Points). SolvedIn n u w2 w2a v) (p .left-is) s
 
-    pub tail-words : WordsThere (solution n (after (p .on))) r w1a w2a
-    tail-words = record {
-      room1 = omega (arith, p .holds .room1);
-      room2 = omega (arith, p .holds .room2);
-      most = omega (arith, solved .most);
-      words = solved .pairs;
-      within = each-map
-          (λ a b h. (let q = pair-below left-graph a b h in
-          (omega (arith, q .0, p .on .cells), omega (arith, q .1, p .on .cells), pair-apart left-graph a b h)))
-          best (solution-heaviest n g left-graph .pairing .held);
-      once = solution-heaviest n g left-graph .pairing .once;
-    }
-
-    module _ {w2b : List ℕ} (same3 : length w2b ≡ length w2a) (m : Mates w2b allShort best × TrailKept w2a w2b) where
-      abbrev back : ReturnThere n t count w1a w2b
+    module _ {w1a : List ℕ} (same1 : length w1a ≡ length w1) (same2 : length w2a ≡ length w2) where
+      abbrev back : ReturnThere n t count w1a w2a
       back =
-          return-there (p .on) w1a w2b best (omega (arith, p .holds .room1)) (p .holds .room2) (omega arith)
-          (λ j l. m .1 j l ∙ solved .aside j (omega arith)) (solution-heaviest n g left-graph .pairing) (m .0)
+          return-there (p .on) w1a w2a best (omega (arith, p .holds .room1)) (p .holds .room2) same2 (solved .aside)
+          (solution-heaviest n g left-graph .pairing) (solved .mates)
 
-      pub tail-returns : ReturnThere n t count w1a w2b
+      pub tail-returns : ReturnThere n t count w1a w2a
       tail-returns = back
 
-      pub tail-passed : {out from : Change} {a : Answer} → Returns n t count w1a w2b out from a
-          → Does (crowdedRow (cellsLeft n g) ∷ []) (backTo n (p .on .w) (p .on .steps) best out from) a
+      pub tail-passed : {out from : Change} {a : Answer} → Returns n t count w1a w2a out from a
+          → Does (crowdedRow (largest n g) ∷ []) (backTo n (p .on .w) (p .on .steps) best out from) a
       tail-passed d =
-          passed (crowdedRow (cellsLeft n g) ∷ []) [] (omega arith, tt)
-          (rw (le-ltb 12 (cellsLeft n g) (solved .few))) (d back)
+          passed (crowdedRow (largest n g) ∷ []) [] (omega arith, tt) (rw (le-ltb 12 (largest n g) (solved .few)))
+          (d back)
 
 -- ---- on the steps of reduce
 
@@ -115,10 +98,10 @@ module _ (list : List ℕ) {n slots on-trail points steps : ℕ} {w1 w2 : List �
       → Does (callRows few list ++ pairRows list)
       ((pairingFile list, out .0, out .1) ∷ (pairingOrigins list, from .0, from .1) ∷ []) a
   pair-passed few z {out} {from} {a} p =
-      passed (callRows few list) (crowdedRow (cellsLeft (cellsOf list) (graphAfter list ss)) ∷ []) (omega arith) z
+      passed (callRows few list) (crowdedRow (largest (cellsOf list) (graphAfter list ss)) ∷ []) (omega arith) z
       (subst Of (d .cells) (p reduced))
     where
       Of : ℕ → Type 0
       Of i =
-          Does (crowdedRow (cellsLeft i (graphAfter list ss)) ∷ [])
+          Does (crowdedRow (largest i (graphAfter list ss)) ∷ [])
           (backTo i (graphIn list) ss (solution i (graphAfter list ss)) out from) a

@@ -4,7 +4,6 @@ use mathlib.Core.Option.{some, none}
 use Prim.Native.Nat.{ℕ}
 use Rattle.matching.specs.Pairs.{Pair, Points}
 use Rattle.matching.specs.Listed.{filed}
-use Rattle.matching.specs.Graph.{cellsLeft}
 use Rattle.matching.specs.Steps.{Step}
 use Rattle.matching.specs.Slip.{left, lift}
 use Rattle.matching.specs.Origin.{Origins, origins}
@@ -15,6 +14,7 @@ use Rattle.checks.specs.Calls.{formRow, holdRow, crowdedRow, answering}
 use Rattle.cellfile.specs.Answers.{Answer}
 use Rattle.starting.specs.Steps.{graphIn, stepsOn, slipRows, reduceSteps}
 use Rattle.matching.specs.Solve.{solution}
+use Rattle.matching.specs.Groups.{largest}
 
 -- A pairing as a file.
 abbrev pub pairFile : ℕ → List Pair → List ℕ
@@ -51,11 +51,11 @@ module _ (list : List ℕ) where
   abbrev pub solveFile : List ℕ → List ℕ
   solveFile slip = bySteps slip [] solvedFile
 
-  abbrev pub cellsAfter : List ℕ → ℕ
-  cellsAfter slip = bySteps slip 0 (λ ss. cellsLeft cells (graphAfter ss))
+  abbrev pub largestAfter : List ℕ → ℕ
+  largestAfter slip = bySteps slip 0 (λ ss. largest cells (graphAfter ss))
 
   abbrev pub solveRows : List ℕ → List Row
-  solveRows slip = slipRows list slip ++ crowdedRow (cellsAfter slip) ∷ []
+  solveRows slip = slipRows list slip ++ crowdedRow (largestAfter slip) ∷ []
 
   abbrev pub solving : List ℕ → List ℕ → ℕ → Answer
   solving slip lent room = answering lent list (solveRows slip) ((room, solveFile slip) ∷ [])
@@ -84,7 +84,7 @@ module _ (list : List ℕ) where
   pairingOrigins = liftedOrigins (reduceSteps list) (solution cells (graphAfter (reduceSteps list)))
 
   abbrev pub pairRows : List Row
-  pairRows = crowdedRow (cellsLeft cells (graphAfter (reduceSteps list))) ∷ []
+  pairRows = crowdedRow (largest cells (graphAfter (reduceSteps list))) ∷ []
 
   abbrev pub pairing : List ℕ → ℕ → ℕ → Answer
   pairing lent room originRoom =

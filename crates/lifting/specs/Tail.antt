@@ -6,7 +6,7 @@ use mathlib.Core.Option.{some}
 use Prim.Native.Nat.{ℕ, _≤_}
 use lib.ListN.{length, take}
 use Rattle.matching.specs.Pairs.{Points}
-use Rattle.matching.specs.Graph.{Graph, cellsLeft}
+use Rattle.matching.specs.Graph.{Graph}
 use Rattle.matching.specs.Steps.{Step, name}
 use Rattle.matching.specs.Slip.{replay, left}
 use Rattle.checks.specs.Calls.{crowdedRow}
@@ -16,6 +16,7 @@ use Rattle.trail.specs.Trail.{trail, Small}
 use Rattle.checks.specs.Answering.{Does}
 use Rattle.lifting.specs.Ending.{Change, backTo}
 use Rattle.matching.specs.Solve.{solution}
+use Rattle.matching.specs.Groups.{largest}
 
 -- The trail of t words of steps, so many, that are allowed on a graph of n cells.
 pub record TrailThere (n t count : ℕ) (w2 : List ℕ) : Type 0 where
@@ -44,5 +45,5 @@ pub record TailThere (n e t count : ℕ) (w1 w2 : List ℕ) : Type 0 where
 abbrev pub Tails : (n e t count : ℕ) (w1 w2 : List ℕ) → Change → Change → Answer → Type 0
 Tails n e t count w1 w2 out from a =
     (p : TailThere n e t count w1 w2)
-    → Does (crowdedRow (cellsLeft n (after (p .on))) ∷ [])
+    → Does (crowdedRow (largest n (after (p .on))) ∷ [])
     (backTo n (p .on .w) (p .on .steps) (solution n (after (p .on))) out from) a

@@ -9,12 +9,12 @@ use solving::Solved;
 use starting;
 use starting::Started;
 ghost use mathlib.Core.List.{_∷_, [], _++_};
-ghost use Rattle.matching.specs.Graph.{cellsLeft};
 ghost use Rattle.slots.specs.Slots.{graphOf};
 ghost use Rattle.checks.specs.Calls.{answered, callRows, crowdedRow};
 ghost use Rattle.checks.specs.Answering.{Does, Enough};
 ghost use Rattle.lifting.specs.Calls.{pairFile, solveRows, solveFile, liftRows, liftFile, liftOrigins};
 ghost use Rattle.matching.specs.Solve.{solution};
+ghost use Rattle.matching.specs.Groups.{largest};
 ghost use Rattle.solving.specs.Left.{LeftThere};
 ghost use Rattle.lifting.specs.Tail.{TailThere};
 ghost use Rattle.lifting.specs.Lifting.{PairingThere, LiftsPairing, LiftsTail};
@@ -22,13 +22,16 @@ ghost use Rattle.lifting.specs.Lifting.{PairingThere, LiftsPairing, Lift
 // Refusals 11 and 12, and the solution of the graph of n cells in e slots.
 fn solve_tail(n: usize, e: usize, w1: &mut [u64], w2: &mut [u64], out: &mut [u8]) -> Lengths
     requires { ⌜ LeftThere n e (now w1) (now w2) ⌝ }
-    ensures { λ a. ⌜ Does (crowdedRow (cellsLeft n (graphOf e (now (w1 .entry)))) ∷ [])
+    ensures { λ a. ⌜ Does (crowdedRow (largest n (graphOf e (now (w1 .entry)))) ∷ [])
         ((pairFile n (solution n (graphOf e (now (w1 .entry)))), now (out .entry), now (out .exit)) ∷ [])
         (answered a) ⌝ }
 {
     match solving::solve_left(w1, w2, e, n) {
         Solved::Crowded => Lengths::Refused(11),
-        Solved::Pairs(r) => ends::write_pairs(n, w1, r, out),
+        Solved::Points(_) => {
+            let r = partners::list_pairs(w1, w2, n);
+            ends::write_pairs(n, w1, r, out)
+        }
     }
 }
 

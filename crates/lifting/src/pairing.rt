@@ -1,7 +1,6 @@
 // Inner functions of pair: see specs/Tail.
 use crate::ends;
 use checks::Lengths;
-use partners;
 use solving;
 use solving::Solved;
 use starting;
@@ -29,10 +28,7 @@ fn pair_tail(
 {
     match solving::solve_left(w1, w2, e, n) {
         Solved::Crowded => Lengths::Refused(11),
-        Solved::Pairs(r) => {
-            partners::enter_words(w1, r, w2);
-            ends::bring_back(n, t, steps, w1, w2, out, origins)
-        }
+        Solved::Points(_) => ends::bring_back(n, t, steps, w1, w2, out, origins),
     }
 }
 

@@ -1,6 +1,5 @@
 -- Sets of cells that no pair leaves, solved one by one: joined, they give every sum that the whole gives
--- (`solve-groups`), so every cell its partner (`groups-partner`), and the same file (`groups-filed`): the heaviest of
--- the whole, with the same choice among equals. In order: the best of some pairs, split by such a set (`H-split`,
+-- (`solve-groups`), so the same file (`groups-filed`): the heaviest of the whole, with the same choice among equals. In order: the best of some pairs, split by such a set (`H-split`,
 -- `best-in`); the pairs of a set; sets that hold each cell once (`Parts`); the laws. Assumes nothing.
 use mathlib.Core.Path.{_≡_, refl, sym, ap, ap₂, _∙_}
 use mathlib.Core.Logic.{_≢_}
@@ -11,7 +10,7 @@ use native.Mathlib.Omega.{arith}
 use lib.ListN.{length}
 use Rattle.matching.specs.Lists.{mem, All}
 use Rattle.matching.specs.Pairs.{Pair, Points, ι, sum, Each, keep, hit, like}
-use Rattle.matching.specs.Pairing.{Pairing, Heaviest}
+use Rattle.matching.specs.Pairing.{Pairing}
 use Rattle.matching.specs.Listed.{filed}
 use Rattle.matching.specs.Graph.{Graph}
 use Rattle.matching.specs.Best.{barred, H, pays, best}
@@ -268,19 +267,6 @@ solve-groups w whole a css p k l f =
     (each-map (λ a b h. h .0) (pairsAmong w whole) (of-each w (λ x. mem x whole ≡ true) whole (all-members whole))))
     ∙ ap (sum f) (sym (solve-best k w whole l (rises-distinct whole a)))
 
--- a cell that no set holds is in no pair
-pub parts-off : {n : ℕ} {w : Points} → Graph n w → (css : List (List ℕ)) → All Rises css → (c : ℕ)
-    → holding css c ≡ 0 → sum (hit c) (solveEach w css) ≡ 0
-parts-off g [] r c h = refl
-parts-off {n} {w} g (cs ∷ css) r c h =
-    omega (
-      arith,
-      sum-append (hit c) (solve (length cs) w cs) (solveEach w css),
-      solve-solves n w g (length cs) cs (omega arith) (r .0) .0 .inside c
-          (fails (isT (mem c cs)) (λ e. omega (arith, ap ι e))),
-      parts-off g css (r .1) c (omega arith),
-    )
-
 -- Of a graph, with the cells that have pairs for the whole.
 each-held : {n : ℕ} {w : Points} → Graph n w → (css : List (List ℕ)) → All Rises css
     → Each (λ a b. 0 < w a b) (solveEach w css)
@@ -297,12 +283,6 @@ module _ {n : ℕ} {w : Points} (g : Graph n w) (css : List (List ℕ)) (p : Par
   groups-pairing = record {
     held = each-held g css (p .rise);
     once = λ c. omega (arith, groups-sum (hit c), solution-heaviest n w g .pairing .once c);
-  }
-
-  pub groups-heaviest : Heaviest w w (solveEach w css)
-  groups-heaviest = record {
-    pairing = groups-pairing;
-    most = λ m q. omega (arith, groups-sum w, solution-heaviest n w g .most m q);
   }
 
   pub groups-filed : filed (solveEach w css) ≡ solution n w

@@ -50,6 +50,7 @@ pub mod Solution
 -- Groups.
 pub mod Reached
 pub mod Grouped
+pub mod Groups
 -- The ties of what is written; the published rules.
 pub mod Ways
 pub mod Published

@@ -1,8 +1,8 @@
 -- The connected group of a cell: the least set with the cell that no pair leaves (`group-least`, `group-closed`).
 -- In order: the cells around some cells; the cells reached, which a round leaves as they are or makes more, so that n
 -- rounds are enough (`group-stays`) and a group of k + 1 cells is reached over k pairs (`reached-all`); two groups are
--- the same or have no cell in common (`group-turned`, `group-meets`); the largest group has no more cells than have
--- pairs (`largest-left`), and there is none where no pairs are left (`largest-none`, `largest-short`). Assumes nothing.
+-- the same or have no cell in common (`group-turned`, `group-meets`); the largest group (`largest-most`,
+-- `largest-least`). Assumes nothing.
 use mathlib.Core.Path.{_≡_, refl, sym, ap, subst, _∙_}
 use mathlib.Core.Logic.{_⊎_, inl, inr}
 use mathlib.Core.Bool.{Bool, true, false, not, _||_}
@@ -14,20 +14,17 @@ use lib.ListN.{length}
 use borrow.Author.Tests.{lt-ltb}
 use Rattle.matching.specs.Lists.{any, mem, All}
 use Rattle.matching.specs.Pairs.{Points}
-use Rattle.matching.specs.Listed.{listed, shortList}
-use Rattle.matching.specs.Graph.{Graph, degree, cellsLeft}
+use Rattle.matching.specs.Graph.{Graph, degree}
 use Rattle.matching.specs.Solve.{withPairs}
 use Rattle.matching.specs.Groups.{around, reached, group, greatest, largest}
 use Rattle.matching.proofs.Tests.{Test, pass, fail, isT, ltT, orT, mapT, holds, passes}
 use Rattle.matching.proofs.Members.{clash, no-mem, mem-on, mem-head, mem-cases, mem-one}
 use Rattle.matching.proofs.Alls.{all-mem}
 use Rattle.matching.proofs.Where.{Rises, rises-distinct, whereT, where-in, where-below, where-rises, Inside}
-use Rattle.matching.proofs.Where.{same-members, members-more, members-length, anyT}
+use Rattle.matching.proofs.Where.{same-members, members-more, anyT}
 use Rattle.matching.proofs.Upto.{distinct-length}
 use Rattle.matching.proofs.Put.{pair-below}
-use Rattle.matching.proofs.Short.{short-points}
-use Rattle.matching.proofs.Tally.{degree-live}
-use Rattle.matching.proofs.Solution.{withT, with-length, with-cells, with-rises, with-pair}
+use Rattle.matching.proofs.Solution.{withT}
 
 -- A set of cells, by its test, that no pair leaves.
 abbrev pub Closed : Points → (ℕ → Bool) → Type 0
@@ -268,27 +265,3 @@ module _ (n : ℕ) (w : Points) where
   pub largest-least : (c : ℕ) → mem c (withPairs n w) ≡ true → length (group n w c) ≤ largest n w
   unfolding largest
   largest-least c m = greatest-least (λ c. length (group n w c)) (withPairs n w) c m
-
-  -- the group of a cell that has pairs is of such cells
-  pub group-with : Graph n w → (c : ℕ) → mem c (withPairs n w) ≡ true → Inside (group n w c) (withPairs n w)
-  group-with g c m = reached-each n w c (λ x. mem x (withPairs n w) ≡ true) m (λ a b l h. with-pair n w g a b l) n
-
-  pub largest-left : Graph n w → largest n w ≤ cellsLeft n w
-  largest-left g =
-      largest-most (cellsLeft n w)
-      (λ c l d. omega (
-        arith,
-        with-length n w,
-        members-length n (group n w c) (withPairs n w)
-            (reached-rises n w c n) (with-rises n w) (with-cells n w)
-            (group-with g c (passes (withT n w c) (λ f. omega (arith, f l)))),
-      ))
-
-  -- no pairs left, no group
-  pub largest-none : ((a b : ℕ) → w a b ≡ 0) → largest n w ≡ 0
-  largest-none z =
-      omega (arith, largest-most 0 (λ c l d. let p = degree-live n w c d in absurd (omega (arith, z c (p .0), p .1))))
-
-  pub largest-short : Graph n w → shortList n w ≡ [] → largest n w ≡ 0
-  unfolding listed
-  largest-short g e = largest-none (λ a b. sym (short-points n w g a b) ∙ ap (λ es. listed es a b) e)

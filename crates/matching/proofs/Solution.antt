@@ -1,21 +1,21 @@
 -- The solution as its file has it. In order: what is tried keeps what each trial has (`tries-keep`); the cells of a
 -- set's heaviest pairing are in the set (`solve-each`), and its pairs are in file order where the set ascends
--- (`solve-in-order`); the cells that have pairs, how many and which they are (`withT`), and that they ascend; so the
+-- (`solve-in-order`); which cells have pairs (`withT`), and that they ascend; so the
 -- solution is in file order (`solution-filed`), its cells below n (`solution-cells`), heaviest (`solution-heaviest`), and
 -- of those the first (`solution-first`). Assumes nothing.
-use mathlib.Core.Path.{_≡_, refl, ap, _∙_}
+use mathlib.Core.Path.{_≡_, ap, _∙_}
 use mathlib.Core.Bool.{Bool, true, false, not, cond, _&&_}
-use mathlib.Core.List.{List, [], _∷_, _++_}
+use mathlib.Core.List.{List, [], _∷_}
 use Prim.Native.Nat.{ℕ, zero, suc, _+_, _≤_, _<_}
 use native.Mathlib.Omega.{arith}
 use lib.Dec.{ltb}
-use lib.ListN.{length, length-append}
+use lib.ListN.{length}
 use Rattle.matching.specs.Lists.{All, mem, Ascends}
-use Rattle.matching.specs.Pairs.{Pair, Points, ι, sum, Each}
+use Rattle.matching.specs.Pairs.{Pair, Points, sum, Each}
 use Rattle.matching.specs.Listed.{filed}
 use Rattle.matching.specs.Pairing.{Heaviest, First}
-use Rattle.matching.specs.Graph.{Graph, partners, degree, paired, cellsLeft}
-use Rattle.matching.specs.Solve.{less, tries, solve, cellsWhere, withPairs, solution}
+use Rattle.matching.specs.Graph.{Graph, partners, degree}
+use Rattle.matching.specs.Solve.{less, tries, solve, withPairs, solution}
 use Rattle.matching.proofs.Alls.{all-map, all-mem}
 use Rattle.matching.proofs.Where.{Rises, rises-distinct, whereT, where-below, where-rises}
 use Rattle.matching.proofs.Upto.{distinct-length}
@@ -66,22 +66,7 @@ solve-in-order (suc k) w (c ∷ cs) h =
 -- ---- the cells that have pairs
 
 module _ (n : ℕ) (w : Points) where
-  -- how many
-  pub with-length : length (withPairs n w) ≡ cellsLeft n w
-  unfolding cellsWhere paired
-  with-length = go n
-    where
-      go : (k : ℕ) → length (cellsWhere k (λ c. ltb 0 (degree n w c))) ≡ paired n w k
-      go zero = refl
-      go (suc k) =
-          length-append (cellsWhere k (λ c. ltb 0 (degree n w c))) (cond (ltb 0 (degree n w k)) (k ∷ []) [])
-          ∙ omega (arith, go k, one (ltb 0 (degree n w k)))
-        where
-          one : (t : Bool) → length (cond t (k ∷ []) []) ≡ ι t
-          one true = refl
-          one false = refl
-
-  -- which, and in which order
+  -- which they are, and in which order
   pub withT : (c : ℕ) → Test ((c < n) × (0 < degree n w c)) (c < n → degree n w c ≤ 0) (mem c (withPairs n w))
   withT c =
       mapT (λ h. (h .0, holds (ltT 0 (degree n w c)) (h .1))) (λ f l. holds (notT (ltT 0 (degree n w c))) (ap not (f l)))

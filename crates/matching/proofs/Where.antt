@@ -5,10 +5,9 @@
 use mathlib.Core.Path.{_≡_, refl, sym, ap, _∙_}
 use mathlib.Core.Logic.{_⊎_, inl, inr, _≢_, ⊎-map}
 use mathlib.Core.Bool.{Bool, true, false, cond, _||_}
-use mathlib.Core.List.{List, [], _∷_, _++_, append-nil}
+use mathlib.Core.List.{List, [], _∷_, _++_}
 use Prim.Native.Nat.{ℕ, zero, suc, _+_, _≤_, _<_}
 use native.Mathlib.Omega.{arith}
-use native.Mathlib.Numerals.{add-one}
 use lib.ListN.{length, getD, length-append}
 use Rattle.matching.specs.Lists.{any, mem, distinct, All, Ascends}
 use Rattle.matching.specs.Solve.{cellsWhere}
@@ -57,22 +56,6 @@ module _ (t : ℕ → Bool) where
 
   pub where-below : (n : ℕ) → All (λ x. x < n) (cellsWhere n t)
   where-below n = all-map (λ x h. holds (whereT n x) h .0) (cellsWhere n t) (all-members (cellsWhere n t))
-
-  -- one cell more
-  pub where-next : (n : ℕ) → t n ≡ true → cellsWhere (n + 1) t ≡ cellsWhere n t ++ n ∷ []
-  unfolding cellsWhere
-  where-next n h = rw (add-one n, h)
-
-  pub where-skip : (n : ℕ) → t n ≡ false → cellsWhere (n + 1) t ≡ cellsWhere n t
-  unfolding cellsWhere
-  where-skip n h = rw (add-one n, h) (append-nil (cellsWhere n t))
-
-  pub where-longer : (j n : ℕ) → length (cellsWhere n t) ≤ length (cellsWhere (j + n) t)
-  unfolding cellsWhere
-  where-longer zero n = let z : 0 + n ≡ n = omega arith in rw z (omega arith)
-  where-longer (suc j) n =
-      let z : suc j + n ≡ suc (j + n) = omega arith in
-      rw z (omega (arith, where-longer j n, length-append (cellsWhere (j + n) t) (cond (t (j + n)) ((j + n) ∷ []) [])))
 
   -- they ascend
   pub where-rises : (n : ℕ) → Rises (cellsWhere n t)

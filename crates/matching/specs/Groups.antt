@@ -1,12 +1,14 @@
 -- The connected groups (components) of a graph. 'The groups are solved one by one, and the joined pairing is the
--- heaviest of the whole, with the same choice among equals' (law: groups-filed, proofs/Grouped).
-use mathlib.Core.Bool.{_||_}
+-- heaviest of the whole, with the same choice among equals as before': it is the solution (law: `groups-solved`,
+-- proofs/Groups).
+use mathlib.Core.Bool.{Bool, false, _&&_, _||_}
 use mathlib.Core.List.{List, [], _∷_, _++_, map}
 use Prim.Native.Nat.{ℕ, zero, suc, max}
-use lib.Dec.{ltb}
+use lib.Dec.{eqb, ltb}
 use lib.ListN.{length}
 use Rattle.matching.specs.Lists.{any, mem}
 use Rattle.matching.specs.Pairs.{Pair, Points}
+use Rattle.matching.specs.Graph.{degree}
 use Rattle.matching.specs.Solve.{cellsWhere, withPairs, solve}
 
 -- The cells below n that are among some cells or paired with one of them.
@@ -29,6 +31,14 @@ greatest (x ∷ xs) = max x (greatest xs)
 
 unfoldable pub largest : ℕ → Points → ℕ
 largest n w = greatest (map (λ c. length (group n w c)) (withPairs n w))
+
+-- The groups of the cells that have pairs, each once: that of each such cell which is the lowest of its group.
+abbrev pub leads : List ℕ → ℕ → Bool
+leads [] c = false
+leads (x ∷ xs) c = eqb x c
+
+abbrev pub groups : ℕ → Points → List (List ℕ)
+groups n w = map (group n w) (cellsWhere n (λ c. ltb 0 (degree n w c) && leads (group n w c) c))
 
 -- Sets of cells solved one by one and joined.
 abbrev pub solveEach : Points → List (List ℕ) → List Pair

@@ -3,18 +3,22 @@ use mathlib.Core.Bool.{cond}
 use mathlib.Core.List.{List, [], _∷_, map}
 use mathlib.Core.Option.{Option, some, none}
 use Prim.Native.Nat.{ℕ}
+use lib.Dec.{ltb}
 use Rattle.matching.specs.Pairs.{Pair}
 use Rattle.matching.specs.Pairing.{isPairing}
 use Rattle.matching.specs.Listed.{Entry, joined, listed, points, shortList, filed}
 use Rattle.matching.specs.Steps.{Rule, by-leaf, by-ring, by-chain, Step, name}
 use Rattle.matching.specs.Slip.{replay, left, carried, carries, lift, reduce}
+use Rattle.matching.specs.Solve.{solution}
+use Rattle.matching.specs.Groups.{groups, largest}
 use Rattle.matching.specs.Origin.{Origin, from-short, from-step, origins}
 
 -- A list of n cells, a slip or none for reduce's own, and a pairing of the short list to lift; or a pairing of the list
--- to weigh.
+-- to weigh; or a list of n cells to solve as it is.
 pub data Case : Type 0 where
   lifting : (n : ℕ) (list : List Entry) (slip : Option (List (Rule × ℕ))) (pairing : List Pair) → Case
   weighing : (list : List Entry) (pairing : List Pair) → Case
+  solving : (n : ℕ) (list : List Entry) → Case
 
 pub record Lifted : Type 0 where
   pub slip : List (Rule × ℕ)
@@ -25,11 +29,12 @@ pub record Lifted : Type 0 where
   pub from : List Origin
   pub points : ℕ
 
--- What is lifted, with what each step carries and where each pair came from; the points weighed; or the number of the
--- refusal.
+-- What is lifted, with what each step carries and where each pair came from; the points weighed; the groups, and the
+-- solution; or the number of the refusal.
 pub data Outcome : Type 0 where
   made : Lifted → Outcome
   weighed : ℕ → Outcome
+  solved : (groups : List (List ℕ)) (pairing : List Pair) → Outcome
   refused : ℕ → Outcome
 
 -- The steps of the slip, or those that reduce takes; none where a step is not allowed.
@@ -51,7 +56,8 @@ liftedBy n l m ss =
       points = points l up;
     }
 
--- Refusal 8 where a step is not allowed, 10 where the pairing is not one of the graph left, or of the list's entries.
+-- Refusal 8 where a step is not allowed, 10 where the pairing is not one of the graph left, or of the list's entries, 11
+-- where some group has more than 12 cells.
 unfoldable pub outcome : Case → Outcome
 outcome (lifting n l s m) =
     elim (stepsOf n l s) [
@@ -59,6 +65,9 @@ outcome (lifting n l s m) =
       | some ss ↦ cond (isPairing (left (listed l) ss) m) (made (liftedBy n l m ss)) (refused 10)
     ]
 outcome (weighing l m) = cond (isPairing (joined l) m) (weighed (points l m)) (refused 10)
+outcome (solving n l) =
+    let w = listed l in
+    cond (ltb 12 (largest n w)) (refused 11) (solved (groups n w) (solution n w))
 
 -- A row of the table.
 abbrev pub WorkedRow : Type 0
@@ -178,4 +187,20 @@ rows =
     ∷ lifted 5 ones chain1 [] 1 ones-short ((1, 2) ∷ []) (first by-chain ∷ []) 1
     ∷ lifted 6 twos chain1 ((0, 1) ∷ []) 2 twos-short ((0, 1) ∷ (2, 3) ∷ []) (first by-chain ∷ first by-chain ∷ []) 3
     ∷ lifted 6 twos chain1 ((1, 5) ∷ []) 2 twos-short ((1, 2) ∷ (4, 5) ∷ []) (first by-chain ∷ first by-chain ∷ []) 3
+    -- two triangles on every other cell and a cell without pairs; all pairs of four cells twice over, of equal points
+    ∷ (
+      solving 7 ((0, 2, 5) ∷ (0, 4, 4) ∷ (1, 3, 1) ∷ (1, 5, 3) ∷ (2, 4, 3) ∷ (3, 5, 3) ∷ []),
+      solved ((0 ∷ 2 ∷ 4 ∷ []) ∷ (1 ∷ 3 ∷ 5 ∷ []) ∷ []) ((0, 2) ∷ (3, 5) ∷ []),
+    )
+    ∷ (
+      solving 8 ((0, 1, 5) ∷ (0, 2, 5) ∷ (0, 3, 5) ∷ (1, 2, 5) ∷ (1, 3, 5) ∷ (2, 3, 5) ∷ (4, 5, 5) ∷ (4, 6, 5)
+          ∷ (4, 7, 5) ∷ (5, 6, 5) ∷ (5, 7, 5) ∷ (6, 7, 5) ∷ []),
+      solved ((0 ∷ 1 ∷ 2 ∷ 3 ∷ []) ∷ (4 ∷ 5 ∷ 6 ∷ 7 ∷ []) ∷ []) ((0, 1) ∷ (2, 3) ∷ (4, 5) ∷ (6, 7) ∷ []),
+    )
+    -- thirteen cells in a row, whose numbers go to and fro
+    ∷ (
+      solving 13 ((0, 7, 1) ∷ (0, 8, 1) ∷ (1, 8, 1) ∷ (1, 9, 1) ∷ (2, 9, 1) ∷ (2, 10, 1) ∷ (3, 10, 1) ∷ (3, 11, 1)
+          ∷ (4, 11, 1) ∷ (4, 12, 1) ∷ (5, 12, 1) ∷ (6, 7, 1) ∷ []),
+      refused 11,
+    )
     ∷ []

@@ -25,8 +25,7 @@
 //             that is named by partners: solve-heaviest, solve-first, Foremost.
 //   groups    the group of a cell is the least set with it that no pair leaves: group-least, group-closed; a group of
 //             k + 1 cells is reached over k pairs: reached-all. Reached. Sets that no pair leaves, solved one by one,
-//             give the solution: solve-groups, groups-filed, Grouped. Found by labels: own-labelled, swept-labelled,
-//             Sweeps; labels-split, labels-class, labels-parts, Classes.
+//             give the solution: solve-groups, groups-filed, Grouped; so do the groups: groups-solved, Groups.
 //   lists     an accepted list is a graph: listed-graph, Entries; the short list of a graph is it again: short-points,
 //             Short; a pairing in file order: filed-pairing, filed-in-order, filed-same, Filed.
 //   worked    the worked lists, computed: table, each-row, Worked; wrong turns that come out differently: WrongTurns.

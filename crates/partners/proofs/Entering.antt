@@ -11,7 +11,7 @@ use Rattle.matching.specs.Pairing.{isPairing}
 use Rattle.cellfile.specs.Files.{pairing, pairsOf}
 use Rattle.checks.specs.Loops.{WholeFile}
 use Rattle.checks.proofs.Rows.{bad-pairing-none}
-use Rattle.partners.specs.Table.{FileThere, TrailKept, Entered}
+use Rattle.partners.specs.Table.{FileThere, TableOnly, Entered}
 use Rattle.partners.specs.Entering.{allThere, Filled}
 
 pub file-whole : {n e : ℕ} {file : List ℕ} {k : ℕ} {w1 w2 : List ℕ} → FileThere n e file k w1 w2
@@ -36,6 +36,6 @@ module _ {w : Points} {file w2 : List ℕ} {t : Bool} (there : t ≡ not (allThe
       let a = not-false (allThere w (pairsOf file)) (sym there ∙ q) in
       record { answer = rw (a, and-true) (g .answer); mates = g .mates; aside = g .aside }
 
-pub filled-on : {m : List Pair} {w2 v u : List ℕ} {b : Bool} → TrailKept w2 v → Filled m v u b
+pub filled-on : {m : List Pair} {w2 v u : List ℕ} {b : Bool} → TableOnly w2 v → Filled m v u b
     → Filled m w2 u b
 filled-on kept f = record { answer = f .answer; mates = f .mates; aside = λ j l. f .aside j l ∙ kept j l }

@@ -24,14 +24,14 @@ use Rattle.cellfile.specs.Files.{pairsOf, countOf}
 use Rattle.cellfile.specs.Reads.{PairRead}
 use Rattle.cellfile.specs.declared.decode.PairEntry.{PairEntry}
 use Rattle.cellfile.proofs.Walk.{pairs-count, pair-next, cells-fit}
-use Rattle.partners.specs.Table.{TrailKept}
+use Rattle.partners.specs.Table.{TableOnly}
 use Rattle.partners.specs.Entering.{Empty, Filled}
 use Rattle.partners.proofs.Tags.{tags-short}
 
-trail-on : (w v u : List ℕ) → TrailKept w v → TrailKept v u → TrailKept w u
+trail-on : (w v u : List ℕ) → TableOnly w v → TableOnly v u → TableOnly w u
 trail-on w v u p q j l = q j l ∙ p j l
 
-trail-set : (w : List ℕ) (c x : ℕ) → TrailKept w (set w (atTable + c) x)
+trail-set : (w : List ℕ) (c x : ℕ) → TableOnly w (set w (atTable + c) x)
 trail-set w c x j l = getD-set-other w (atTable + c) j x 0 (omega arith)
 
 -- The word of the table for the cell c.
@@ -51,7 +51,7 @@ table-other w c x d n = getD-set-other w (atTable + c) (atTable + d) x 0 (λ e. 
 pub record Emptying (w v : List ℕ) (c : ℕ) : Type 0 where
   pub at : c ≤ 1024
   pub zeros : (d : ℕ) → d < c → mateAt v d ≡ 0
-  pub aside : TrailKept w v
+  pub aside : TableOnly w v
 
 pub empty-start : (w : List ℕ) → Emptying w w 0
 empty-start w = record { at = omega arith; zeros = λ d l. absurd (omega arith); aside = λ j l. refl }
@@ -68,7 +68,7 @@ empty-next {w} {v} {c} p room l = record {
     go d k (pass e) = rw e (table-same v c 0 room l)
     go d k (fail n) = table-other v c 0 d n ∙ p .zeros d (omega arith)
 
-pub empty-end : {w v : List ℕ} {c : ℕ} → Emptying w v c → 1024 ≤ c → Empty v × TrailKept w v
+pub empty-end : {w v : List ℕ} {c : ℕ} → Emptying w v c → 1024 ≤ c → Empty v × TableOnly w v
 empty-end p l = (λ d k. p .zeros d (omega arith), p .aside)
 
 -- ---- the table filled
@@ -96,7 +96,7 @@ hit-both c a b p q = omega (arith, ι-is a p, ι-is b q)
 pub record Filling (all rest : List Pair) (w v : List ℕ) : Type 0 where
   pub mates : (c : ℕ) → c < 1024 → partner c all ≡ mateAt v c + partner c rest
   pub hits : (c : ℕ) → c < 1024 → sum (hit c) all ≡ ι (ltb 0 (mateAt v c)) + sum (hit c) rest
-  pub aside : TrailKept w v
+  pub aside : TableOnly w v
 
 pub fill-start : (all : List Pair) (w : List ℕ) → Empty w → Filling all all w w
 fill-start all w h = record {
@@ -119,7 +119,7 @@ module _ {all rest : List Pair} {w v : List ℕ} {a b : ℕ} (p : Filling all ((
   abbrev half : List ℕ
   half = set v (atTable + a) (b + 1)
 
-  half-aside : TrailKept w half
+  half-aside : TableOnly w half
   half-aside = trail-on w v half (p .aside) (trail-set v a (b + 1))
 
   pub fill-twice-b : mateAt (set v (atTable + a) (b + 1)) b ≢ 0 → Filled all w (set v (atTable + a) (b + 1)) true

@@ -11,7 +11,7 @@ use Rattle.matching.specs.Lists.{all, distinct}
 use Rattle.matching.specs.Pairs.{Pair, Points}
 use Rattle.matching.specs.Pairing.{cells}
 use Rattle.matching.specs.Origin.{allShort}
-use Rattle.partners.specs.Table.{Mates, TrailKept}
+use Rattle.partners.specs.Table.{Mates, TableOnly}
 
 -- Whether the graph has all the pairs.
 abbrev pub allThere : Points → List Pair → Bool
@@ -25,4 +25,4 @@ Empty w2 = (c : ℕ) → c < 1024 → getD w2 (atTable + c) 0 ≡ 0
 pub record Filled (m : List Pair) (w2 w2′ : List ℕ) (twice : Bool) : Type 0 where
   pub answer : twice ≡ not (distinct (cells m))
   pub mates : twice ≡ false → Mates w2′ allShort m
-  pub aside : TrailKept w2 w2′
+  pub aside : TableOnly w2 w2′

@@ -4,7 +4,7 @@ use mathlib.Core.Logic.{_≢_}
 use mathlib.Core.Bool.{Bool, false}
 use mathlib.Core.List.{List, map}
 use Prim.Native.Nat.{ℕ, suc, _+_, _*_, _-_, _/_, _%_, _≤_, _<_}
-use lib.ListN.{length, getD, take, drop}
+use lib.ListN.{length, getD, set, take, drop}
 use Rattle.buffers.specs.Map.{trailRoom, atTable, atOrigins, partnerField}
 use Rattle.matching.specs.Pairs.{Pair, Points, sum, Each}
 use Rattle.matching.specs.Pairing.{Once, seen}
@@ -25,6 +25,11 @@ tag o c b = suc b + partnerField * stampOf (o c b)
 abbrev pub Mates : List ℕ → Origins → List Pair → Type 0
 Mates w2 o m = (c : ℕ) → c < 1024 → getD w2 (atTable + c) 0 ≡ sum (seen (tag o c) c) m
 
+-- The second buffer with the pair x, y put into the table, with its stamp.
+abbrev pub joined : ℕ → ℕ → ℕ → List ℕ → List ℕ
+joined x y stamp w2 =
+    set (set w2 (atTable + x) (y + 1 + partnerField * stamp)) (atTable + y) (x + 1 + partnerField * stamp)
+
 -- Two cells below n.
 abbrev pub Within : ℕ → List Pair → Type 0
 Within n m = Each (λ a b. (a < n) × (b < n) × (a ≢ b)) m
@@ -35,15 +40,18 @@ pub record FileThere (n e : ℕ) (file : List ℕ) (k : ℕ) (w1 w2 : List ℕ) 
   pub formed : badPairing n file ≡ false
   pub count : k ≡ countOf file
 
--- The words of the trail did not change.
+-- The words of the trail, or all words before the table, did not change.
 abbrev pub TrailKept : List ℕ → List ℕ → Type 0
 TrailKept w2 w2′ = (j : ℕ) → j < trailRoom → getD w2′ j 0 ≡ getD w2 j 0
+
+abbrev pub TableOnly : List ℕ → List ℕ → Type 0
+TableOnly w2 w2′ = (j : ℕ) → j < atTable → getD w2′ j 0 ≡ getD w2 j 0
 
 -- Refusal 10; where it does not hold the table has the partners.
 pub record Entered (w : Points) (file w2 w2′ : List ℕ) (refused : Bool) : Type 0 where
   pub answer : refused ≡ noPairing w (pairsOf file)
   pub mates : refused ≡ false → Mates w2′ allShort (pairsOf file)
-  pub aside : TrailKept w2 w2′
+  pub aside : TableOnly w2 w2′
 
 -- The record of an origin list, as a word, for a cell and its word in the table.
 abbrev pub recordIn : ℕ → ℕ → ℕ
@@ -64,12 +72,3 @@ pub record Listed (o : Origins) (m : List Pair) (w1′ : List ℕ) (r : ℕ) : T
   pub count : r ≡ length (filed m)
   pub pairs : take r w1′ ≡ map pairWord (filed m)
   pub origins : take r (drop atOrigins w1′) ≡ map (originWord o) (filed m)
-
--- The first r words of the first buffer are the pairs of m. Inner contracts cite this.
-pub record WordsThere (m : List Pair) (r : ℕ) (w1 w2 : List ℕ) : Type 0 where
-  pub room1 : 8192 ≤ length w1
-  pub room2 : 8192 ≤ length w2
-  pub most : r ≤ 512
-  pub words : take r w1 ≡ map pairWord m
-  pub within : Within 1024 m
-  pub once : Once m

@@ -1,6 +1,5 @@
 // Inner, for weighing and lifting: a pairing into the table of partners, and out of it with where its pairs came from.
 // See specs/Table.
-use buffers::map::CELL_FIELD;
 use buffers::map::ORIGIN_WORDS;
 use buffers::map::PAIR_A;
 use buffers::map::PAIR_B;
@@ -17,16 +16,25 @@ ghost use Prim.Native.Nat.{ℕ, _*_, _%_, _≤_, _<_};
 ghost use lib.ListN.{length};
 ghost use Rattle.buffers.specs.Map.{partnerField};
 ghost use Rattle.matching.specs.Pairs.{Pair};
-ghost use Rattle.matching.specs.Origin.{Origins, allShort};
+ghost use Rattle.matching.specs.Origin.{Origins};
 ghost use Rattle.cellfile.specs.Files.{pairing as pairingLayout, pairsOf};
 ghost use Rattle.checks.specs.Loops.{WholeFile};
 ghost use Rattle.slots.specs.Slots.{Holds, graphOf};
-ghost use Rattle.partners.specs.Table.{Mates, FileThere, TrailKept, Entered, recordIn, TableThere};
-ghost use Rattle.partners.specs.Table.{Listed, WordsThere};
+ghost use Rattle.partners.specs.Table.{joined, FileThere, TableOnly, Entered, recordIn, TableThere};
+ghost use Rattle.partners.specs.Table.{Listed};
 ghost use Rattle.partners.specs.Entering.{allThere, Empty, Filled};
 
 // The words of the table.
 const CELLS: usize = 1024;
+
+// The pair x, y comes into the table, with its stamp.
+pub fn join(w2: &mut [u64], x: usize, y: usize, stamp: u64)
+    requires { ⌜ (8192 ≤ length (now w2)) × (x < 1024) × (y < 1024) × (stamp < 16384) ⌝ }
+    ensures { λ _. ⌜ now (w2 .exit) ≡ joined x y stamp (now (w2 .entry)) ⌝ }
+{
+    w2[TABLE + x] = y as u64 + 1 + PARTNER_FIELD * stamp;
+    w2[TABLE + y] = x as u64 + 1 + PARTNER_FIELD * stamp;
+}
 
 // The record of an origin list for the pair of the cell a, by the cell's word in the table.
 fn record_of(a: u64, word: u64) -> u64
@@ -85,9 +93,9 @@ fn missing(pairing: &[u8], k: usize, w1: &[u64], w2: &[u64], e: usize) -> bool
 }
 
 // No cell has a partner afterwards.
-fn clear_table(w2: &mut [u64])
+pub fn clear_table(w2: &mut [u64])
     requires { ⌜ 8192 ≤ length (now w2) ⌝ }
-    ensures { λ _. ⌜ Empty (now (w2 .exit)) × TrailKept (now (w2 .entry)) (now (w2 .exit)) ⌝ }
+    ensures { λ _. ⌜ Empty (now (w2 .exit)) × TableOnly (now (w2 .entry)) (now (w2 .exit)) ⌝ }
 {
     let mut c = 0;
     while c < CELLS {
@@ -138,31 +146,4 @@ pub fn enter(pairing: &[u8], k: usize, w1: &[u64], w2: &mut [u64], e: usize) -> 
         return true;
     }
     enter_pairs(pairing, k, w2)
-}
-
-// The pairs of the first r words go into the table, which is empty before.
-fn fill_words(w1: &[u64], r: usize, w2: &mut [u64])
-    requires { ⌜ ((m : List Pair) × WordsThere m r (now w1) (now w2)) × Empty (now w2) ⌝ }
-    ensures { λ _. ⌜ ((m : List Pair) → WordsThere m r (now (w1 .entry)) (now (w2 .entry))
-        → Mates (now (w2 .exit)) allShort m × TrailKept (now (w2 .entry)) (now (w2 .exit))) ⌝ }
-{
-    let mut i = 0;
-    while i < r {
-        let word = w1[i];
-        let a = (word / PAIR_A % CELL_FIELD) as usize;
-        let b = (word / PAIR_B % CELL_FIELD) as usize;
-        w2[TABLE + a] = b as u64 + 1;
-        w2[TABLE + b] = a as u64 + 1;
-        i += 1;
-    }
-}
-
-// The pairs of the first r words go into the table.
-pub fn enter_words(w1: &[u64], r: usize, w2: &mut [u64])
-    requires { ⌜ ((m : List Pair) × WordsThere m r (now w1) (now w2)) ⌝ }
-    ensures { λ _. ⌜ ((m : List Pair) → WordsThere m r (now (w1 .entry)) (now (w2 .entry))
-        → Mates (now (w2 .exit)) allShort m × TrailKept (now (w2 .entry)) (now (w2 .exit))) ⌝ }
-{
-    clear_table(w2);
-    fill_words(w1, r, w2);
 }

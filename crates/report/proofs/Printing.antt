@@ -10,7 +10,7 @@ use lib.Dec.{eqb}
 use lib.ListN.{length, getD, take}
 use lib.Seq.{take-append-seam}
 use borrow.Author.Tests.{le-ltb, ne-eqb}
-use Rattle.matching.specs.Graph.{cellsLeft}
+use Rattle.matching.specs.Groups.{largest}
 use Rattle.matching.specs.Steps.{Step}
 use Rattle.cellfile.specs.Files.{cellsOf, onto}
 use Rattle.checks.specs.Refusals.{Row, first, fewWords, lists, listRows, crowded, shortOutput}
@@ -89,7 +89,7 @@ module _ (list : List ℕ) (a b : ℕ) (room-a : 8192 ≤ a) (room-b : 8192 ≤ 
           r = answer-refused _ k _ _ (e ∙ reducing-is)
 
           crowdedAfter : Bool
-          crowdedAfter = crowded (cellsLeft (cellsOf list) (graphAfter list ss))
+          crowdedAfter = crowded (largest (cellsOf list) (graphAfter list ss))
 
           go : (i : ℕ) → first (listRows lists list) ≡ i → line "refused" (k ∷ []) ≡ printed list
           go zero z =
@@ -123,7 +123,7 @@ module _ (list : List ℕ) (a b : ℕ) (room-a : 8192 ≤ a) (room-b : 8192 ≤ 
   module _ (h : first (listRows lists list) ≡ 0) (room origin-room : ℕ) (long : 1540 ≤ room)
       (origin-long : 2564 ≤ origin-room) where
     abbrev full : Bool
-    full = crowded (cellsLeft (cellsOf list) (graphAfter list ss))
+    full = crowded (largest (cellsOf list) (graphAfter list ss))
 
     refusal-is : refusal list ≡ cond full 11 0
     refusal-is = first-passed (listRows lists list) ((11, full) ∷ []) (list-none lists list h)

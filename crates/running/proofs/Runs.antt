@@ -40,7 +40,7 @@ use Rattle.finding.specs.declared.Found.{Found}
 use Rattle.bounds.specs.Bounds.{Quieted, LowestRing, RingQuieted, RingsLeft}
 use Rattle.trail.specs.Trail.{stepWords, trail}
 use Rattle.trail.proofs.Trail.{trail-append, trail-room}
-use Rattle.trail.proofs.TakenRow.{drop-same}
+use Rattle.buffers.proofs.Same.{drop-same}
 use Rattle.taking.specs.Applying.{StepThere, StepTaken}
 use Rattle.taking.specs.declared.Taken.{Taken}
 use Rattle.taking.proofs.Applied.{found-step}

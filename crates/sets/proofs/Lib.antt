@@ -3,4 +3,4 @@ pub mod Places
 pub mod Heaviest
 pub mod Tried
 pub mod Known
-pub mod Found
+pub mod Taking

@@ -1,6 +1,7 @@
 -- The places of a set. In order: the bits of a set less one place; the places of a set less one place (`places-less`);
--- the places from one on (`from`); the lowest place and the others (`first-place`); how many places there are; the
--- same, where the set of one place is given by its number (`without-first`, `fewer-first`, `fewer-next`).
+-- the places from one on (`from`), and that none is from k on in a set of the first k places (`from-end`); the lowest
+-- place and the others (`first-place`); how many places there are; the same, where the set of one place is given by its
+-- number (`without-first`, `fewer-first`, `fewer-next`); that number as a shift (`one-shifted`).
 use mathlib.Core.Path.{_≡_, refl, sym, ap, ap₂, _∙_}
 use mathlib.Core.Logic.{_≢_}
 use mathlib.Core.Bool.{Bool, true, false, cond, _||_}
@@ -10,7 +11,7 @@ use native.Mathlib.Omega.{arith, by-contra}
 use native.Mathlib.Nat.{pow-suc, zero-div, div-eq-of-lt, div-eq-sub-div, add-mul-div-left}
 use lib.Dec.{eqb}
 use lib.ListN.{length, length-append}
-use lib.Pow.{pow-pos, pow-mono, pow-add, shr-shr}
+use lib.Pow.{pow-pos, pow-mono, pow-add, shl-exact, shr-shr}
 use borrow.Author.Tests.{eq-eqb, ne-eqb}
 use Rattle.matching.specs.Lists.{mem, All}
 use Rattle.matching.specs.Solve.{less}
@@ -132,9 +133,6 @@ places-from (suc k) p s =
     let z : suc k + p ≡ k + suc p = omega arith in
     rw z (sym (append-assoc (places p s) (only p s) (from k (suc p) s)) ∙ places-from k (suc p) s)
 
-pub all-from : (s : ℕ) → from 12 0 s ≡ inSet s
-all-from s = ap (λ zs. zs ++ from 12 0 s) (sym (places-none s)) ∙ places-from 12 0 s
-
 pub from-in : (p s : ℕ) → p < 12 → s / 2 ^ p % 2 ≡ 1 → from (12 - p) p s ≡ p ∷ from (12 - (p + 1)) (p + 1) s
 from-in p s l h =
     let e : 12 - p ≡ suc (12 - (p + 1)) = omega arith in
@@ -147,8 +145,13 @@ from-out p s l h =
     let f : suc p ≡ p + 1 = omega arith in
     rw (e, f, only-out p s h)
 
-pub from-end : (p s : ℕ) → 12 ≤ p → from (12 - p) p s ≡ []
-from-end p s l = (let e : 12 - p ≡ 0 = omega arith in rw e)
+-- no place from k on is in a set of the first k places
+pub from-end : (n k p s : ℕ) → s < 2 ^ k → k ≤ p → from n p s ≡ []
+from-end zero k p s h l = refl
+from-end (suc n) k p s h l =
+    let m : 2 ^ k ≤ 2 ^ p = pow-mono l in
+    let z : s / 2 ^ p ≡ 0 = div-eq-of-lt (omega arith) in
+    rw (only-out p s (λ e. omega (arith, e, z)), from-end n k (suc p) s h (omega arith))
 
 -- ---- the lowest place, and the others
 
@@ -242,6 +245,23 @@ less-shorter p (c ∷ cs) h = go (eqT c p) h (less-shorter p cs)
 pub without-first : (c s : ℕ) {b : ℕ} → b ≡ 2 ^ c → Lowest c s → (b ≤ s) × (inSet s ≡ c ∷ inSet (s - b))
 without-first c s e h = rw e (bit-within s c (h .1), first-place c s (h .0) (h .1) (h .2))
 
+-- the others are above it
+pub others-from : (c s : ℕ) {b : ℕ} → b ≡ 2 ^ c → Lowest c s → from (12 - (c + 1)) (c + 1) (s - b) ≡ inSet (s - b)
+others-from c s e h = rw e (go none)
+  where
+    none : places (suc c) (s - 2 ^ c) ≡ []
+    none =
+        sym (places-less s c (h .1) (suc c))
+        ∙ ap (less c) (places-suc c s ∙ ap₂ (λ x y. x ++ y) (h .2) (only-in c s (h .1)))
+        ∙ rw (eq-eqb c c refl) refl
+
+    go : places (suc c) (s - 2 ^ c) ≡ [] → from (12 - (c + 1)) (c + 1) (s - 2 ^ c) ≡ inSet (s - 2 ^ c)
+    go z =
+        let f : suc c ≡ c + 1 = omega arith in
+        let n : 12 - (c + 1) + (c + 1) ≡ 12 = omega (arith, h .0) in
+        rw (f) at (ap (λ zs. zs ++ from (12 - (c + 1)) (suc c) (s - 2 ^ c)) (sym z)
+        ∙ places-from (12 - (c + 1)) (suc c) (s - 2 ^ c)) ∙ ap (λ k. places k (s - 2 ^ c)) n
+
 pub lowest-one : (c d s : ℕ) → Lowest c s → Lowest d s → c ≡ d
 lowest-one c d s l m = cc (without-first c s refl l .1, without-first d s refl m .1)
 
@@ -254,3 +274,8 @@ next-within p r e h = rw e (bit-within r p h)
 pub fewer-next : (p r : ℕ) {b : ℕ} → b ≡ 2 ^ p → p < 12 → r / 2 ^ p % 2 ≡ 1
     → length (inSet (r - b)) < length (inSet r)
 fewer-next p r e l h = rw (e, ← places-less r p h 12) (less-shorter p (inSet r) (places-mem 12 p r l h))
+
+-- ---- the set of one place, as a shift
+
+pub one-shifted : (p : ℕ) → p ≤ 12 → 1 * 2 ^ p % 2 ^ 64 ≡ 2 ^ p
+one-shifted p l = shl-exact {a = 1} 1 p 64 (omega arith) (omega arith) ∙ omega arith

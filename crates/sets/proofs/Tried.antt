@@ -12,7 +12,7 @@ use Rattle.matching.specs.Pairs.{Pair, Points, sum}
 use Rattle.matching.specs.Solve.{less, tries, solve}
 use Rattle.buffers.specs.Map.{unit}
 use Rattle.sets.specs.Sets.{inSet, between, heaviest, points, Lowest, partnered, Partner, Best}
-use Rattle.sets.proofs.Places.{places-less, from, all-from, from-in, from-out, from-end, places-few}
+use Rattle.sets.proofs.Places.{places-less, from, others-from, from-in, from-out, from-end, places-few}
 use Rattle.sets.proofs.Places.{without-first, lowest-one}
 use Rattle.sets.proofs.Heaviest.{solve-more, word-light}
 
@@ -45,21 +45,22 @@ pub record Tried (ws : List ℕ) (s c rest p best r : ℕ) : Type 0 where
   pub within : Partner rest r
 
 pub tried-first : {ws : List ℕ} {s c b v : ℕ} → b ≡ 2 ^ c → Lowest c s → Best ws (s - b) v
-    → Tried ws s c (s - b) 0 (v / 16) 0
+    → Tried ws s c (s - b) (c + 1) (v / 16) 0
 tried-first {ws} {s} {c} {b} e l v = record {
   low = l;
   others = ap (λ (x : ℕ). s - x) e;
   whole = sym (solve-more 12 (between ws) (inSet s) (places-few 12 s))
       ∙ ap (solve 13 (between ws)) (without-first c s e l .1)
-      ∙ ap (λ ps. onward ws c (s - b) ps (heaviest ws (s - b))) (sym (all-from (s - b)));
+      ∙ ap (λ ps. onward ws c (s - b) ps (heaviest ws (s - b))) (sym (others-from c s e l));
   sums = v .sums;
   within = (omega arith, λ z. absurd (omega arith));
 }
 
 module _ {ws : List ℕ} {s c rest p best r : ℕ} (t : Tried ws s c rest p best r) where
-  pub tried-all : 12 ≤ p → Best ws s (best * 16 + r + 1)
-  tried-all m =
-      let done = t .whole ∙ ap (λ ps. onward ws c rest ps (partnered ws c rest r)) (from-end p rest m) in
+  pub tried-all : {k : ℕ} → s < 2 ^ k → k ≤ p → Best ws s (best * 16 + r + 1)
+  tried-all {k} h m =
+      let none = from-end (12 - p) k p rest (omega (arith, t .others)) m in
+      let done = t .whole ∙ ap (λ ps. onward ws c rest ps (partnered ws c rest r)) none in
       let its-points : (best * 16 + r + 1) / 16 ≡ best = omega (arith, t .within .0) in
       let its-partner : (best * 16 + r + 1) % 16 - 1 ≡ r = omega (arith, t .within .0) in
       record {

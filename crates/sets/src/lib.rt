@@ -1,18 +1,44 @@
 // Inner, for solving: the heaviest pairing of a set of at most 12 cells, by their places. See specs/Sets.
-use buffers::map;
+use buffers::map::SETS;
 ghost use mathlib.Core.Path.{_≡_};
-ghost use mathlib.Core.List.{map};
-ghost use Prim.Native.Nat.{_^_, _<_, _≤_};
-ghost use lib.ListN.{length, take};
-ghost use Rattle.sets.specs.Sets.{heaviest, cellAt, pairOf, Lowest, Best, Kept, Ready};
+ghost use Prim.Native.Nat.{_-_, _^_, _<_, _≤_};
+ghost use lib.ListN.{length};
+ghost use Rattle.sets.specs.Sets.{points, Lowest, Best, Kept, Ready, Forgotten, Takes};
 
-// How many places there are, and where their cells start behind the points.
+// How many places there are at most.
 pub const MOST: usize = 12;
-
-const CELLS: usize = map::PLACES - map::POINTS;
 
 // One of the points in the word of a set, above the partner and 1.
 const POINT: u64 = 16;
+
+// The lowest place of a set with its partner in the set's heaviest pairing (0 where it has none, else the partner's
+// place and 1), and the set without them.
+pub struct Taken {
+    pub low: usize,
+    pub partner: usize,
+    pub rest: usize,
+}
+
+// The set of the first k places.
+pub fn first_places(k: usize) -> usize
+    requires { ⌜ k ≤ 12 ⌝ }
+    ensures { λ r. ⌜ r ≡ 2 ^ k - 1 ⌝ }
+{
+    (1 << k) - 1
+}
+
+// Nothing is known of the sets of the first k places afterwards.
+pub fn clear_sets(w1: &mut [u64], k: usize)
+    requires { ⌜ (8192 ≤ length (now w1)) × (k ≤ 12) ⌝ }
+    ensures { λ _. ⌜ Forgotten k (now (w1 .entry)) (now (w1 .exit)) ⌝ }
+{
+    let end = 1 << k;
+    let mut s = 0;
+    while s < end {
+        w1[SETS + s] = 0;
+        s += 1;
+    }
+}
 
 // The lowest place of the set.
 fn lowest(s: usize) -> usize
@@ -34,31 +60,39 @@ fn single(p: usize) -> usize
     1 << p
 }
 
-// The word of the set s: the points of its heaviest pairing, and the partner of its lowest place in it (0 where it has
-// none, else the partner's place and 1). By recursion over smaller sets; what is found is kept in the table.
-fn heavy(ws: &[u64], w1: &mut [u64], s: usize) -> u64
-    requires { ⌜ Ready (now ws) (now w1) s ⌝ }
-    ensures { λ r. ⌜ Best (now (ws .entry)) s r × Kept (now (ws .entry)) (now (w1 .entry)) (now (w1 .exit)) ⌝ }
+// The word of the set s of some of the first k places: the points of its heaviest pairing, and the partner of its lowest
+// place in it (0 where it has none, else the partner's place and 1). It is kept in the table.
+fn word_of(ws: &[u64], w1: &mut [u64], k: usize, s: usize) -> u64
+    requires { ⌜ Ready (now ws) (now w1) k s ⌝ }
+    ensures { λ r. ⌜ Best (now (ws .entry)) s r × Kept (now (ws .entry)) k (now (w1 .entry)) (now (w1 .exit)) ⌝ }
+{
+    let have = w1[SETS + s];
+    if have != 0 {
+        return have;
+    }
+    heavy(ws, w1, k, s)
+}
+
+// The same, worked out from the words of smaller sets.
+fn heavy(ws: &[u64], w1: &mut [u64], k: usize, s: usize) -> u64
+    requires { ⌜ Ready (now ws) (now w1) k s ⌝ }
+    ensures { λ r. ⌜ Best (now (ws .entry)) s r × Kept (now (ws .entry)) k (now (w1 .entry)) (now (w1 .exit)) ⌝ }
 {
     if s == 0 {
         return 1;
     }
-    let have = w1[map::SETS + s];
-    if have != 0 {
-        return have;
-    }
     let c = lowest(s);
     let rest = s - single(c);
-    let mut best = heavy(ws, w1, rest) / POINT;
+    let mut best = word_of(ws, w1, k, rest) / POINT;
     let mut partner = 0;
-    let mut p = 0;
-    while p < MOST {
+    let mut p = c + 1;
+    while p < k {
         let q = p;
         p += 1;
         if (rest >> q) % 2 == 1 {
             let x = ws[MOST * c + q];
             if 0 < x {
-                let y = x + heavy(ws, w1, rest - single(q)) / POINT;
+                let y = x + word_of(ws, w1, k, rest - single(q)) / POINT;
                 if best < y {
                     best = y;
                     partner = p;
@@ -67,40 +101,36 @@ fn heavy(ws: &[u64], w1: &mut [u64], s: usize) -> u64
         }
     }
     let word = best * POINT + partner as u64 + 1;
-    w1[map::SETS + s] = word;
+    w1[SETS + s] = word;
     word
 }
 
-// The word of a pairing for the cells at the places i and j.
-fn pair_word(ws: &[u64], i: usize, j: usize) -> u64
-    requires { ⌜ (i < 12) × (j < 12) × (156 ≤ length (now ws)) × (cellAt (now ws) i < 1024)
-        × (cellAt (now ws) j < 1024) ⌝ }
-    ensures { λ r. ⌜ r ≡ pairOf (now (ws .entry)) (i, j) ⌝ }
+// The points of the heaviest pairing of the set s, of which nothing is known. (That `heavy` is called here and not
+// `word_of` keeps the two apart in the compiled code: a word that is known costs no call then.)
+pub fn points_of(ws: &[u64], w1: &mut [u64], k: usize, s: usize) -> u64
+    requires { ⌜ Ready (now ws) (now w1) k s ⌝ }
+    ensures { λ r. ⌜ (r ≡ points (now (ws .entry)) s)
+        × Kept (now (ws .entry)) k (now (w1 .entry)) (now (w1 .exit)) ⌝ }
 {
-    let a = ws[CELLS + i];
-    let b = ws[CELLS + j];
-    a * map::PAIR_A + b * map::PAIR_B
+    heavy(ws, w1, k, s) / POINT
 }
 
-// The pairs of the heaviest pairing of the set s, as words of a pairing in file order, at the start of the buffer:
-// their number.
-pub fn solve_set(ws: &[u64], w1: &mut [u64], s: usize) -> usize
-    requires { ⌜ Ready (now ws) (now w1) s ⌝ }
-    ensures { λ r. ⌜ (r ≤ 6) × (r ≡ length (heaviest (now (ws .entry)) s))
-        × (take r (now (w1 .exit)) ≡ map (pairOf (now (ws .entry))) (heaviest (now (ws .entry)) s)) ⌝ }
+// The lowest place of the set s and its partner in the heaviest pairing of the set.
+pub fn take_lowest(ws: &[u64], w1: &mut [u64], k: usize, s: usize) -> Taken
+    requires { ⌜ Ready (now ws) (now w1) k s × (0 < s) ⌝ }
+    ensures { λ t. ⌜ Takes (now (ws .entry)) s t
+        × Kept (now (ws .entry)) k (now (w1 .entry)) (now (w1 .exit)) ⌝ }
 {
-    let mut left = s;
-    let mut n = 0;
-    while left != 0 {
-        let partner = (heavy(ws, w1, left) % POINT - 1) as usize;
-        let c = lowest(left);
-        left -= single(c);
-        if partner != 0 {
-            let p = partner - 1;
-            left -= single(p);
-            w1[n] = pair_word(ws, c, p);
-            n += 1;
-        }
+    let partner = (word_of(ws, w1, k, s) % POINT - 1) as usize;
+    let low = lowest(s);
+    let rest = s - single(low);
+    if partner == 0 {
+        return Taken { low, partner, rest };
     }
-    n
+    let others = rest - single(partner - 1);
+    Taken {
+        low,
+        partner,
+        rest: others,
+    }
 }

@@ -1,4 +1,6 @@
 -- The laws of solving what is left.
 pub mod Renaming
-pub mod Gathering
 pub mod Placing
+pub mod Joining
+pub mod Groups
+pub mod Left

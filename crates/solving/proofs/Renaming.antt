@@ -1,5 +1,5 @@
 -- Solving goes through a renaming of cells, as from their places in a list to the cells. In order: the set less a cell,
--- the partners tried, the whole (`solve-renamed`); fuel beyond the number of cells changes nothing (`solve-fuel`).
+-- the partners tried, the whole (`solve-alike`); fuel beyond the number of cells changes nothing (`solve-fuel`).
 -- Assumes nothing.
 use mathlib.Core.Path.{_≡_, refl, sym, ap, _∙_}
 use mathlib.Core.Bool.{Bool, true, false, cond, _&&_}
@@ -8,24 +8,24 @@ use Prim.Native.Nat.{ℕ, zero, suc, _+_, _-_, _≤_, _<_}
 use native.Mathlib.Omega.{arith}
 use lib.Dec.{eqb, ltb}
 use lib.ListN.{length}
-use Rattle.matching.specs.Lists.{mem}
+use Rattle.matching.specs.Lists.{mem, All, Ascends}
 use Rattle.matching.specs.Pairs.{Pair, Points, sum}
 use Rattle.matching.specs.Solve.{less, tries, solve}
 use Rattle.matching.proofs.Members.{mem-head, mem-on}
-use Rattle.matching.proofs.Solve.{less-mem}
+use Rattle.matching.proofs.Solve.{less-mem, less-ascends}
 use Rattle.sets.proofs.Heaviest.{solve-more}
 
 -- ---- the renaming
 
--- The points of places below k are those of their cells, and no two places have the same cell.
+-- The points from a place below k to a higher one are those of their cells, and no two places have the same cell.
 pub record Renames (k : ℕ) (f : ℕ → ℕ) (v w : Points) : Type 0 where
-  pub points : (i j : ℕ) → i < k → j < k → v i j ≡ w (f i) (f j)
+  pub points : (i j : ℕ) → i < j → j < k → v i j ≡ w (f i) (f j)
   pub apart : (i j : ℕ) → i < k → j < k → eqb (f i) (f j) ≡ eqb i j
 
 abbrev pub both : (ℕ → ℕ) → Pair → Pair
 both f e = (f (e .0), f (e .1))
 
-abbrev Below : ℕ → List ℕ → Type 0
+abbrev pub Below : ℕ → List ℕ → Type 0
 Below k ps = (i : ℕ) → mem i ps ≡ true → i < k
 
 module _ {k : ℕ} {f : ℕ → ℕ} {v w : Points} (r : Renames k f v w) where
@@ -42,15 +42,15 @@ module _ {k : ℕ} {f : ℕ → ℕ} {v w : Points} (r : Renames k f v w) where
       go false e = ap (λ zs. f c ∷ zs) e
 
   -- a pairing of cells and one of their places
-  abbrev Alike : List Pair → List Pair → Type 0
+  abbrev pub Alike : List Pair → List Pair → Type 0
   Alike a b = (a ≡ map (both f) b) × (sum w a ≡ sum v b)
 
-  tries-renamed : (c : ℕ) (R S : ℕ → List Pair) (ps : List ℕ) → c < k → Below k ps
+  tries-renamed : (c : ℕ) (R S : ℕ → List Pair) (ps : List ℕ) → All (λ p. c < p) ps → Below k ps
       → ((p : ℕ) → mem p ps ≡ true → Alike (R (f p)) (S p)) → (a b : List Pair) → Alike a b
       → Alike (tries R w (f c) (map f ps) a) (tries S v c ps b)
   tries-renamed c R S [] l m h a b e = e
   tries-renamed c R S (p ∷ ps) l m h a b e =
-      tries-renamed c R S ps l (λ i q. m i (mem-on i p ps q)) (λ i q. h i (mem-on i p ps q)) _ _ step
+      tries-renamed c R S ps (l .1) (λ i q. m i (mem-on i p ps q)) (λ i q. h i (mem-on i p ps q)) _ _ step
     where
       better : ℕ → ℕ → ℕ → Bool
       better x s t = ltb 0 x && ltb s (x + t)
@@ -59,7 +59,7 @@ module _ {k : ℕ} {f : ℕ → ℕ} {v w : Points} (r : Renames k f v w) where
       here = h p (mem-head p p ps refl)
 
       x-is : w (f c) (f p) ≡ v c p
-      x-is = sym (r .points c p l (m p (mem-head p p ps refl)))
+      x-is = sym (r .points c p (l .0) (m p (mem-head p p ps refl)))
 
       go : (t : Bool) → Alike (cond t ((f c, f p) ∷ R (f p)) a) (cond t ((c, p) ∷ S p) b)
       go true = (ap (λ zs. (f c, f p) ∷ zs) (here .0), omega (arith, here .1, x-is))
@@ -72,21 +72,18 @@ module _ {k : ℕ} {f : ℕ → ℕ} {v w : Points} (r : Renames k f v w) where
           (cond (better (v c p) (sum v b) (sum v (S p))) ((c, p) ∷ S p) b)
       step = rw test (go (better (v c p) (sum v b) (sum v (S p))))
 
-  solve-alike : (j : ℕ) (ps : List ℕ) → Below k ps → Alike (solve j w (map f ps)) (solve j v ps)
-  solve-alike zero ps b = (refl, refl)
-  solve-alike (suc j) [] b = (refl, refl)
-  solve-alike (suc j) (c ∷ cs) b =
-      tries-renamed c (λ p. solve j w (less p (map f cs))) (λ p. solve j v (less p cs)) cs
-      (b c (mem-head c c cs refl)) on
-      (λ p h. rw (less-renamed p cs (on p h) on) (solve-alike j (less p cs) (λ i q. on i (less-mem p i cs q .0))))
-      (solve j w (map f cs)) (solve j v cs) (solve-alike j cs on)
+  pub solve-alike : (j : ℕ) (ps : List ℕ) → Ascends (λ a b. a < b) ps → Below k ps
+      → Alike (solve j w (map f ps)) (solve j v ps)
+  solve-alike zero ps a b = (refl, refl)
+  solve-alike (suc j) [] a b = (refl, refl)
+  solve-alike (suc j) (c ∷ cs) a b =
+      tries-renamed c (λ p. solve j w (less p (map f cs))) (λ p. solve j v (less p cs)) cs (a .0) on
+      (λ p h. rw (less-renamed p cs (on p h) on)
+      (solve-alike j (less p cs) (less-ascends p cs (a .1)) (λ i q. on i (less-mem p i cs q .0))))
+      (solve j w (map f cs)) (solve j v cs) (solve-alike j cs (a .1) on)
     where
       on : Below k cs
       on i h = b i (mem-on i c cs h)
-
-  pub solve-renamed : (j : ℕ) (ps : List ℕ) → ((i : ℕ) → mem i ps ≡ true → i < k)
-      → solve j w (map f ps) ≡ map (both f) (solve j v ps)
-  solve-renamed j ps b = solve-alike j ps b .0
 
 -- ---- fuel
 

@@ -1,16 +1,17 @@
 -- Solving what is left in the slots. Inner contracts cite this.
 use mathlib.Core.Path.{_≡_}
-use mathlib.Core.List.{List, map}
+use mathlib.Core.List.{List}
 use Prim.Native.Nat.{ℕ, _≤_, _<_}
-use lib.ListN.{length, getD, take}
-use Rattle.buffers.specs.Map.{atPoints}
-use Rattle.matching.specs.Pairs.{Points}
-use Rattle.matching.specs.Graph.{Graph, cellsLeft}
-use Rattle.slots.specs.Slots.{Holds, graphOf}
-use Rattle.cellfile.specs.Words.{pairWord, pointsRoom}
+use Rattle.matching.specs.Pairs.{Points, sum}
+use Rattle.matching.specs.Graph.{Graph}
 use Rattle.matching.specs.Solve.{solution}
+use Rattle.matching.specs.Groups.{largest}
+use Rattle.matching.specs.Origin.{allShort}
+use Rattle.slots.specs.Slots.{Holds, graphOf}
+use Rattle.cellfile.specs.Words.{pointsRoom}
+use Rattle.partners.specs.Table.{Mates, TrailKept}
 use Rattle.solving.specs.declared.Solved.{Solved}
-use Rattle.solving.specs.declared.Solved.the-variants.{Crowded, Pairs}
+use Rattle.solving.specs.declared.Solved.the-variants.{Crowded, Points as Value}
 
 -- e slots hold a graph of n cells, with points of 44 bits.
 pub record LeftThere (n e : ℕ) (w1 w2 : List ℕ) : Type 0 where
@@ -19,15 +20,13 @@ pub record LeftThere (n e : ℕ) (w1 w2 : List ℕ) : Type 0 where
   pub graph : Graph n (graphOf e w1)
   pub small : (a b : ℕ) → graphOf e w1 a b < pointsRoom
 
--- More than 12 cells have pairs; or the pairs of the solution stand as words at the start of the first buffer. Words of
--- the second buffer below `atPoints` (the trail, the slip) did not change.
-pub record SolvedIn (n : ℕ) (w : Points) (w1′ w2 w2′ : List ℕ) (r : ℕ) : Type 0 where
-  pub few : cellsLeft n w ≤ 12
-  pub most : r ≤ 6
-  pub count : r ≡ length (solution n w)
-  pub pairs : take r w1′ ≡ map pairWord (solution n w)
-  pub aside : (j : ℕ) → j < atPoints → getD w2′ j 0 ≡ getD w2 j 0
+-- Some group has more than 12 cells; or the partners of the solution stand in the table, and its points are v.
+pub record SolvedIn (n : ℕ) (w : Points) (w2 w2′ : List ℕ) (v : ℕ) : Type 0 where
+  pub few : largest n w ≤ 12
+  pub value : v ≡ sum w (solution n w)
+  pub mates : Mates w2′ allShort (solution n w)
+  pub aside : TrailKept w2 w2′
 
-abbrev pub Solves : ℕ → Points → (w1′ w2 w2′ : List ℕ) → Solved → Type 0
-Solves n w w1′ w2 w2′ Crowded = 12 < cellsLeft n w
-Solves n w w1′ w2 w2′ (Pairs r) = SolvedIn n w w1′ w2 w2′ r
+abbrev pub Solves : ℕ → Points → (w2 w2′ : List ℕ) → Solved → Type 0
+Solves n w w2 w2′ Crowded = 12 < largest n w
+Solves n w w2 w2′ (Value v) = SolvedIn n w w2 w2′ v

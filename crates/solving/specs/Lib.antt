@@ -1,3 +1,3 @@
--- Solving what is left in the slots.
+-- Solving what is left in the slots, group by group.
 pub mod Left
-pub mod Gathered
+pub mod Joined

@@ -1,127 +1,113 @@
-// Inner, for solve and pair: solves what is left in the slots. See specs/Left, and specs/Gathered for its parts.
-use buffers;
+// Inner, for solve and pair: solves what is left in the slots, group by group. See specs/Left, and specs/Joined for its
+// parts.
+use buffers::map::LABELS;
+use buffers::map::LINK_FIELD;
 use buffers::map::PLACES;
 use buffers::map::POINTS;
+use gathering;
+use grouping;
+use partners;
+use running::lists;
 use sets;
 use sets::MOST;
-use slots::read;
 ghost use mathlib.Core.Path.{_≡_};
-ghost use Prim.Native.Nat.{_-_, _^_, _<_, _≤_};
-ghost use lib.ListN.{length};
-ghost use Rattle.matching.specs.Graph.{Graph};
-ghost use Rattle.slots.specs.Slots.{Holds, graphOf};
+ghost use mathlib.Core.List.{List};
+ghost use Prim.Native.Nat.{ℕ, suc, _<_, _≤_};
+ghost use Rattle.matching.specs.Pairs.{Pair, Points};
+ghost use Rattle.grouping.specs.Labels.{Labels};
+ghost use Rattle.slots.specs.Slots.{graphOf};
 ghost use Rattle.solving.specs.Left.{LeftThere, Solves};
-ghost use Rattle.solving.specs.Gathered.{FrontKept, Blank, Gathers, PlacesThere, RowIn, RowOnly, PointsIn};
-ghost use Rattle.solving.specs.Gathered.{SetThere, SetSolved};
+ghost use Rattle.solving.specs.Joined.{JoinThere, Joins, GroupsThere, GroupSolves, LabelsThere, SetOut};
 
-// More than 12 cells have pairs left, or the number of pairs of the solution.
+// Some group has more than 12 cells; or the points of the solution, of a group or of all.
 pub enum Solved {
     Crowded,
-    Pairs(usize),
+    Points(u64),
 }
 
-// The end of the words for crate sets.
-const END: usize = PLACES + MOST;
-
-// The words for crate sets are cleared.
-fn blank(w2: &mut [u64])
-    requires { ⌜ 8192 ≤ length (now w2) ⌝ }
-    ensures { λ _. ⌜ Blank (now (w2 .exit)) × FrontKept (now (w2 .entry)) (now (w2 .exit)) ⌝ }
+// The pairs of the heaviest pairing of the cells at the first k places go into the table of partners: its points.
+fn join_group(w1: &mut [u64], w2: &mut [u64], k: usize) -> u64
+    requires { ⌜ ((w : Points) × (cs : List ℕ) × (m : List Pair) × JoinThere w cs m k (now w1) (now w2)) ⌝ }
+    ensures { λ r. ⌜ ((w : Points) (cs : List ℕ) (m : List Pair)
+        → JoinThere w cs m k (now (w1 .entry)) (now (w2 .entry))
+        → Joins w cs m (now (w1 .entry)) (now (w1 .exit)) (now (w2 .entry)) (now (w2 .exit)) r) ⌝ }
 {
-    let mut i = POINTS;
-    while i < END {
-        w2[i] = 0;
-        i += 1;
-    }
-}
-
-// The cells that have pairs are stored at their places: how many they are, or 13 where they are more than 12.
-fn gather_cells(w1: &[u64], w2: &mut [u64], e: usize, n: usize) -> usize
-    requires { ⌜ (Holds e (now w1) (now w2)) × (n ≤ 1024) × Graph n (graphOf e (now w1)) × Blank (now w2) ⌝ }
-    ensures { λ r. ⌜ Gathers n (graphOf e (now (w1 .entry))) (now (w2 .entry)) (now (w2 .exit)) r ⌝ }
-{
-    let mut k = 0;
-    let mut c = 0;
-    while c < n {
-        let at = c;
-        c += 1;
-        if 0 < read::degree(w1, w2, e, at) {
-            if MOST <= k {
-                return MOST + 1;
-            }
-            w2[PLACES + k] = at as u64;
-            k += 1;
+    let all = sets::first_places(k);
+    let points = sets::points_of(&w2[POINTS..PLACES], w1, k, all);
+    let mut left = all;
+    while left != 0 {
+        let taken = sets::take_lowest(&w2[POINTS..PLACES], w1, k, left);
+        let low = taken.low;
+        let partner = taken.partner;
+        left = taken.rest;
+        if partner != 0 {
+            let a = w2[PLACES + low] as usize;
+            let b = w2[PLACES + (partner - 1)] as usize;
+            partners::join(w2, a, b, 0);
         }
     }
-    k
+    points
 }
 
-// The points of a pair of cells.
-fn points_of(w1: &[u64], w2: &[u64], e: usize, a: usize, b: usize) -> u64
-    requires { ⌜ (Holds e (now w1) (now w2)) × (a < 1024) × (b < 1024) ⌝ }
-    ensures { λ r. ⌜ r ≡ graphOf e (now (w1 .entry)) a b ⌝ }
+// The group whose first cell is d is solved and joined to those before it.
+fn solve_group(w1: &mut [u64], w2: &mut [u64], d: usize) -> Solved
+    requires { ⌜ ((n : ℕ) × (w : Points) × (l : Labels) × GroupsThere n w l d (now w1) (now w2) × (d < n)
+        × (l d ≡ suc d)) ⌝ }
+    ensures { λ r. ⌜ ((n : ℕ) (w : Points) (l : Labels) → GroupsThere n w l d (now (w1 .entry)) (now (w2 .entry))
+        → d < n → l d ≡ suc d → GroupSolves n w l d (now (w1 .exit)) (now (w2 .entry)) (now (w2 .exit)) r) ⌝ }
 {
-    let s = read::find(w1, w2, e, a, b);
-    if s == 0 {
-        return 0;
-    }
-    w1[s - 1]
-}
-
-// The points between the cell at place i and those at the first k places are stored.
-fn gather_row(w1: &[u64], w2: &mut [u64], e: usize, k: usize, i: usize)
-    requires { ⌜ PlacesThere e k (now w1) (now w2) × (i < 12) ⌝ }
-    ensures { λ _. ⌜ RowIn e k (now (w1 .entry)) (now (w2 .exit)) i
-        × RowOnly i (now (w2 .entry)) (now (w2 .exit)) ⌝ }
-{
-    let a = w2[PLACES + i] as usize;
-    let mut j = 0;
-    while j < k {
-        let b = w2[PLACES + j] as usize;
-        w2[POINTS + (MOST * i + j)] = points_of(w1, w2, e, a, b);
-        j += 1;
-    }
-}
-
-// The points between the cells at the first k places are stored.
-fn gather_points(w1: &[u64], w2: &mut [u64], e: usize, k: usize)
-    requires { ⌜ PlacesThere e k (now w1) (now w2) ⌝ }
-    ensures { λ _. ⌜ PointsIn e k k (now (w1 .entry)) (now (w2 .entry)) (now (w2 .exit)) ⌝ }
-{
-    let mut i = 0;
-    while i < k {
-        gather_row(w1, w2, e, k, i);
-        i += 1;
-    }
-}
-
-// The set of the first k places.
-fn first_places(k: usize) -> usize
-    requires { ⌜ k ≤ 12 ⌝ }
-    ensures { λ r. ⌜ r ≡ 2 ^ k - 1 ⌝ }
-{
-    (1 << k) - 1
-}
-
-// The heaviest pairing of the first k places, its pairs as words at the start of the first buffer: their number.
-fn solve_places(w1: &mut [u64], w2: &[u64], k: usize) -> usize
-    requires { ⌜ SetThere k (now w1) (now w2) ⌝ }
-    ensures { λ r. ⌜ SetSolved k (now (w1 .exit)) (now (w2 .entry)) r ⌝ }
-{
-    buffers::clear(w1);
-    sets::solve_set(&w2[POINTS..END], w1, first_places(k))
-}
-
-// Refusal 11, or the solution of the graph of n cells in e slots, its pairs as words at the start of the first buffer.
-pub fn solve_left(w1: &mut [u64], w2: &mut [u64], e: usize, n: usize) -> Solved
-    requires { ⌜ LeftThere n e (now w1) (now w2) ⌝ }
-    ensures { λ r. ⌜ Solves n (graphOf e (now (w1 .entry))) (now (w1 .exit)) (now (w2 .entry)) (now (w2 .exit)) r ⌝ }
-{
-    blank(w2);
-    let k = gather_cells(w1, w2, e, n);
+    let k = gathering::gather_cells(w2, d);
     if MOST < k {
         return Solved::Crowded;
     }
-    gather_points(w1, w2, e, k);
-    Solved::Pairs(solve_places(w1, w2, k))
+    gathering::gather_points(w1, w2, k);
+    sets::clear_sets(w1, k);
+    Solved::Points(join_group(w1, w2, k))
+}
+
+// The groups of n cells are solved one by one, each at its first cell.
+fn solve_groups(w1: &mut [u64], w2: &mut [u64], n: usize) -> Solved
+    requires { ⌜ ((w : Points) × (l : Labels) × GroupsThere n w l 0 (now w1) (now w2)) ⌝ }
+    ensures { λ r. ⌜ ((w : Points) (l : Labels) → GroupsThere n w l 0 (now (w1 .entry)) (now (w2 .entry))
+        → Solves n w (now (w2 .entry)) (now (w2 .exit)) r) ⌝ }
+{
+    let mut points = 0;
+    let mut d = 0;
+    while d < n {
+        let at = d;
+        d += 1;
+        if w2[LABELS + at] % LINK_FIELD == d as u64 {
+            let Solved::Points(more) = solve_group(w1, w2, at) else {
+                return Solved::Crowded;
+            };
+            points += more;
+        }
+    }
+    Solved::Points(points)
+}
+
+// Links, starts of runs, cleared words for crate sets and an empty table, for the labels of n cells and r rows.
+fn set_out(w1: &[u64], w2: &mut [u64], r: usize, n: usize)
+    requires { ⌜ ((w : Points) × (l : Labels) × LabelsThere n w l r (now w1) (now w2)) ⌝ }
+    ensures { λ _. ⌜ ((w : Points) (l : Labels) → LabelsThere n w l r (now (w1 .entry)) (now (w2 .entry))
+        → SetOut n w l (now (w1 .entry)) (now (w2 .entry)) (now (w2 .exit))) ⌝ }
+{
+    grouping::link(w2, n);
+    gathering::find_starts(w1, w2, r, n);
+    gathering::blank(w2);
+    partners::clear_table(w2);
+}
+
+// Refusal 11; or the solution of the graph of n cells in e slots, in the table of partners, and its points.
+pub fn solve_left(w1: &mut [u64], w2: &mut [u64], e: usize, n: usize) -> Solved
+    requires { ⌜ LeftThere n e (now w1) (now w2) ⌝ }
+    ensures { λ r. ⌜ Solves n (graphOf e (now (w1 .entry))) (now (w2 .entry)) (now (w2 .exit)) r ⌝ }
+{
+    grouping::own_labels(w1, w2, e, n);
+    let r = lists::finish(w1, e);
+    if !grouping::level(w1, w2, r) {
+        return Solved::Crowded;
+    }
+    set_out(w1, w2, r, n);
+    solve_groups(w1, w2, n)
 }

@@ -55,7 +55,7 @@ use Rattle.finding.specs.declared.Step.the-variants as found
 use Rattle.taking.specs.declared.Cleared.{Cleared}
 use Rattle.putting.specs.declared.Raised.{Raised}
 use Rattle.taking.specs.declared.Taken.{Taken}
-use Rattle.trail.proofs.TakenRow.{take-same}
+use Rattle.buffers.proofs.Same.{take-same}
 use Rattle.putting.proofs.Putting.{at-pair}
 
 -- ---- a row that goes

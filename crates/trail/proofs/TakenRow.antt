@@ -1,7 +1,6 @@
--- The row of a ring or a chain is taken pair by pair. In order: words that did not change (`take-same`, `drop-same`);
--- what one pair taken leaves (`pair-taken`); the rest of the row while it is taken (`RowAhead`, `Going`), where it
--- starts, what it gives the next pair, how it goes on and how it ends (`going-start`, `going-two`, `going-pair`,
--- `going-on`, `going-end`). Assumes nothing.
+-- The row of a ring or a chain is taken pair by pair. In order: what one pair taken leaves (`pair-taken`); the rest of
+-- the row while it is taken (`RowAhead`, `Going`), where it starts, what it gives the next pair, how it goes on and how
+-- it ends (`going-start`, `going-two`, `going-pair`, `going-on`, `going-end`). Assumes nothing.
 use mathlib.Core.Path.{_≡_, refl, sym, ap, subst, _∙_}
 use mathlib.Core.Logic.{_⊎_, inl, inr, _≢_}
 use mathlib.Core.Bool.{true, false, cond}
@@ -9,10 +8,11 @@ use mathlib.Core.List.{List, [], _∷_, _++_}
 use Prim.Native.Nat.{ℕ, _+_, _*_, _≤_, _<_}
 use native.Mathlib.Omega.{arith}
 use native.Mathlib.Numerals.{add-one}
-use lib.ListN.{length, getD, set, take, drop, length-drop}
-use lib.Seq.{length-take-le, getD-take, getD-drop, ext-getD, take-suc-set, append-snoc, getD-set-other}
+use lib.ListN.{length, getD, set, take}
+use lib.Seq.{take-suc-set, append-snoc, getD-set-other}
 use borrow.Author.Tests.{eq-eqb, ne-eqb}
 use Rattle.buffers.specs.Map.{trailRoom, atNames, unit}
+use Rattle.buffers.proofs.Same.{take-same}
 use Rattle.matching.specs.Lists.{mem, distinct}
 use Rattle.matching.specs.Pairs.{Points}
 use Rattle.matching.specs.Graph.{partners, put}
@@ -37,19 +37,6 @@ use Rattle.finding.proofs.Gone.{put-away, put-most, Agree, run-same, gone, gone
 use Rattle.trail.proofs.Trail.{words-same}
 
 -- ---- one pair
-
-pub take-same : (w w′ : List ℕ) (t : ℕ) → length w′ ≡ length w → t ≤ length w
-    → ((j : ℕ) → j < t → getD w′ j 0 ≡ getD w j 0) → take t w′ ≡ take t w
-take-same w w′ t l m h =
-    ext-getD 0 (take t w′) (take t w) (length-take-le t w′ (omega arith) ∙ sym (length-take-le t w m))
-    (λ i k. (let b : i < t = omega (arith, length-take-le t w′ (omega arith)) in
-    getD-take t w′ i 0 b ∙ h i b ∙ sym (getD-take t w i 0 b)))
-
-pub drop-same : (w w′ : List ℕ) (t : ℕ) → length w′ ≡ length w → ((j : ℕ) → t ≤ j → getD w′ j 0 ≡ getD w j 0)
-    → drop t w′ ≡ drop t w
-drop-same w w′ t l h =
-    ext-getD 0 (drop t w′) (drop t w) (omega (arith, length-drop t w′, length-drop t w))
-    (λ i k. getD-drop t w′ i 0 ∙ h (t + i) (omega arith) ∙ sym (getD-drop t w i 0))
 
 pub pair-taken : {e : ℕ} {w1 w2 w1′ w2′ : List ℕ} {t prev i x : ℕ} → PairThere e w1 w2 t prev i
     → Changed e (put (lowOf w1 i) (highOf w1 i) 0 (graphOf e w1)) w1′ w2 w2′ → w1′ ≡ set w1 i 0

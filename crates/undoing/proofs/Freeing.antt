@@ -8,15 +8,14 @@ use mathlib.Core.Bool.{Bool, true, false, not, _&&_, _||_}
 use mathlib.Core.List.{List}
 use Prim.Native.Nat.{ℕ, _≤_, _<_}
 use native.Mathlib.Omega.{arith}
-use lib.ListN.{length, getD}
-use Rattle.buffers.specs.Map.{trailRoom}
+use lib.ListN.{length}
 use Rattle.matching.specs.Pairs.{Pair, sum, keep, same, like, held, without}
 use Rattle.matching.specs.Pairing.{Once}
 use Rattle.matching.proofs.Tests.{Test, pass, fail, ltT, holds}
 use Rattle.matching.proofs.Sums.{times-none, sum-apart, like-turned, keep-all, keep-and, without-once, without-none}
 use Rattle.matching.proofs.Partner.{held-free}
 use Rattle.matching.specs.Origin.{Origins}
-use Rattle.partners.specs.Table.{Mates}
+use Rattle.partners.specs.Table.{Mates, TableOnly}
 use Rattle.undoing.specs.Unwinding.{parted, InTable, TableOf, chainStays, ChainFreed, RingFreed}
 use Rattle.undoing.specs.declared.Ends.{Ends}
 use Rattle.undoing.proofs.Mating.{parted-aside, mates-part, mates-without, free-unheld}
@@ -91,8 +90,7 @@ module _ (w2 : List ℕ) (r : 8192 ≤ length w2) (u z : ℕ) (p : u < 1024) (q 
     m₂ = without v z m₁
 
     table-each : {w2′ : List ℕ} → Mates w2′ from (unless d u v m₂)
-        → ((j : ℕ) → j < trailRoom → getD w2′ j 0 ≡ getD w2 j 0)
-        → TableOf w2 w2′ from (chainStays u v z d m)
+        → TableOnly w2 w2′ → TableOf w2 w2′ from (chainStays u v z d m)
     table-each {w2′} k a =
         subst (TableOf w2 w2′ from) (sym (stays-each u v z d m)) (record { mates = k; aside = a })
 

@@ -16,18 +16,15 @@ use Rattle.matching.specs.Pairing.{Once}
 use Rattle.matching.proofs.Sums.{sum-append}
 use Rattle.rows.specs.Row.{marked}
 use Rattle.origins.specs.Stamps.{stampOf}
-use Rattle.partners.specs.Table.{TrailKept}
+use Rattle.partners.specs.Table.{joined, TrailKept}
+use Rattle.partners.proofs.Joining.{joined-aside, mates-join}
 use Rattle.trail.specs.Trail.{cellOf, startOf, rowPairs}
-use Rattle.trail.proofs.TakenRow.{take-same}
-use Rattle.undoing.specs.Unwinding.{joined, TableOf, wordsAt, PutThere}
-use Rattle.undoing.proofs.Mating.{joined-aside, mates-join}
+use Rattle.buffers.proofs.Same.{part-same}
+use Rattle.undoing.specs.Unwinding.{TableOf, wordsAt, PutThere}
 
 pub words-same : (a k : ℕ) (w2 w2′ : List ℕ) → TrailKept w2 w2′ → a + k ≤ trailRoom → 8192 ≤ length w2
     → length w2′ ≡ length w2 → take k (drop a w2′) ≡ take k (drop a w2)
-words-same a k w2 w2′ h l r s =
-    take-same (drop a w2) (drop a w2′) k (omega (arith, length-drop a w2, length-drop a w2′))
-    (omega (arith, length-drop a w2))
-    (λ j m. getD-drop a w2′ j 0 ∙ h (a + j) (omega arith) ∙ sym (getD-drop a w2 j 0))
+words-same a k w2 w2′ h l r s = part-same w2 w2′ a k s (omega arith) (λ j m. h j (omega arith))
 
 -- ---- the loop
 

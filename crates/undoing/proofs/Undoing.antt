@@ -30,12 +30,13 @@ use Rattle.rows.specs.Row.{rowWords, RowOf, unmarked, Blank, marked, less, RowB
 use Rattle.rows.proofs.Parts.{length-row, row-few}
 use Rattle.trail.specs.Trail.{rowPairs}
 use Rattle.trail.proofs.Trail.{row-pairs}
-use Rattle.undoing.specs.Unwinding.{joined, InTable, TableOf, wordsAt, PutThere, ChainFreed, RingFreed}
+use Rattle.undoing.specs.Unwinding.{InTable, TableOf, wordsAt, PutThere, ChainFreed, RingFreed}
 use Rattle.undoing.specs.Unwinding.{StepBack, UndoneTable, LeafBack, RingBack, ChainBack}
 use Rattle.origins.specs.Stamps.{stampOf}
-use Rattle.partners.specs.Table.{Mates, TrailKept}
+use Rattle.partners.specs.Table.{joined, Mates, TableOnly}
+use Rattle.partners.proofs.Joining.{joined-aside, mates-join}
 use Rattle.undoing.specs.declared.Ends.{Ends}
-use Rattle.undoing.proofs.Mating.{joined-aside, mates-join, table-free}
+use Rattle.undoing.proofs.Mating.{table-free}
 use Rattle.undoing.proofs.Stamping.{mates-agree, stamped-new, stamped-old}
 use Rattle.undoing.proofs.Marking.{words-same}
 
@@ -151,7 +152,7 @@ module _ {a stamp : ℕ} {marks w2 : List ℕ} {w : Points} {s : Step} {k : ℕ}
       (omega (arith, p .0, b .back .cells), omega (arith, p .1, b .back .cells)))
       (walk u inner v) (b .segment .live)
 
-  module _ (w2a : List ℕ) (kept : TrailKept w2 w2a) (same : length w2a ≡ length w2) where
+  module _ (w2a : List ℕ) (kept : TableOnly w2 w2a) (same : length w2a ≡ length w2) where
     -- the words as they are lent
     abbrev lent : List ℕ
     lent = take (a + length marks - a) (drop a w2a)
@@ -159,7 +160,7 @@ module _ {a stamp : ℕ} {marks w2 : List ℕ} {w : Points} {s : Step} {k : ℕ}
     row-lent : lent ≡ rowWords w u inner v
     row-lent =
         ap (λ (k : ℕ). take k (drop a w2a)) (let e : a + length marks - a ≡ length marks = omega arith in e)
-        ∙ words-same a (length marks) w2 w2a kept (b .on-trail) (b .back .room2) same
+        ∙ words-same a (length marks) w2 w2a (λ j l. kept j (omega arith)) (b .on-trail) (b .back .room2) same
         ∙ b .words
 
     row-asks : {none : List ℕ} → none ≡ unmarked (length marks)
@@ -190,7 +191,7 @@ module _ {a stamp : ℕ} {marks w2 : List ℕ} {w : Points} {s : Step} {k : ℕ}
       row-is =
           ap (λ (ws : List ℕ). rowPairs ws v)
           (ap (λ (k : ℕ). take k (drop a w2a)) as-many
-          ∙ words-same a (length marks) w2 w2a kept (b .on-trail) (b .back .room2) same
+          ∙ words-same a (length marks) w2 w2a (λ j l. kept j (omega arith)) (b .on-trail) (b .back .room2) same
           ∙ b .words)
           ∙ row-pairs w u inner v (each-all (b .back .small) (walk u inner v))
 

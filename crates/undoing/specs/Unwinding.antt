@@ -4,7 +4,7 @@ use mathlib.Core.Bool.{Bool, not, cond, _&&_, _||_}
 use mathlib.Core.List.{List, [], _∷_, _++_}
 use Prim.Native.Nat.{ℕ, _+_, _*_, _≤_, _<_}
 use lib.ListN.{length, set, take, drop}
-use Rattle.buffers.specs.Map.{trailRoom, atTable, partnerField, unit}
+use Rattle.buffers.specs.Map.{trailRoom, atTable, unit}
 use Rattle.matching.specs.Pairs.{Pair, Points, Each, keep, same, held}
 use Rattle.matching.specs.Pairing.{Pairing, Once}
 use Rattle.matching.specs.Graph.{Graph}
@@ -14,14 +14,10 @@ use Rattle.matching.specs.Origin.{Origins, from-step, stamped}
 use Rattle.rows.specs.Row.{rowWords, marked, less}
 use Rattle.trail.specs.Trail.{rowPairs}
 use Rattle.origins.specs.Stamps.{stampOf}
-use Rattle.partners.specs.Table.{Within, Mates, TrailKept}
+use Rattle.partners.specs.Table.{Within, Mates, TableOnly}
 use Rattle.undoing.specs.declared.Ends.{Ends}
 
--- The second buffer with the pair x, y put into the table, with its stamp, and with it taken out.
-abbrev pub joined : ℕ → ℕ → ℕ → List ℕ → List ℕ
-joined x y stamp w2 =
-    set (set w2 (atTable + x) (y + 1 + partnerField * stamp)) (atTable + y) (x + 1 + partnerField * stamp)
-
+-- The second buffer with the pair x, y taken out of the table.
 abbrev pub parted : ℕ → ℕ → List ℕ → List ℕ
 parted x y w2 = set (set w2 (atTable + x) 0) (atTable + y) 0
 
@@ -34,7 +30,7 @@ pub record InTable (w2 : List ℕ) (from : Origins) (m : List Pair) : Type 0 whe
 -- The table has the pairing m now; the trail did not change.
 pub record TableOf (w2 w2′ : List ℕ) (from : Origins) (m : List Pair) : Type 0 where
   pub mates : Mates w2′ from m
-  pub aside : TrailKept w2 w2′
+  pub aside : TableOnly w2 w2′
 
 -- ---- the pairs of a row
 

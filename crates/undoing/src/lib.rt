@@ -7,6 +7,7 @@ use finding::Step;
 use origins;
 use origins::Origin;
 use origins::Rule;
+use partners;
 use trail::words;
 ghost use mathlib.Core.Path.{_≡_};
 ghost use mathlib.Core.Bool.{cond};
@@ -20,18 +21,10 @@ ghost use Rattle.matching.specs.Origin.{Origins, from-step};
 ghost use Rattle.rows.specs.Row.{marked};
 ghost use Rattle.trail.specs.Trail.{rowPairs};
 ghost use Rattle.origins.specs.Stamps.{asRule, stampOf};
+ghost use Rattle.partners.specs.Table.{joined};
 ghost use Rattle.undoing.specs.Back.{UndoThere, Undone, BackThere, Lifted};
-ghost use Rattle.undoing.specs.Unwinding.{joined, parted, InTable, TableOf, wordsAt, PutThere};
+ghost use Rattle.undoing.specs.Unwinding.{parted, InTable, TableOf, wordsAt, PutThere};
 ghost use Rattle.undoing.specs.Unwinding.{ChainFreed, RingFreed, UndoneTable, LeafBack, RingBack, ChainBack};
-
-// The pair x, y comes into the table, with its stamp.
-fn join(w2: &mut [u64], x: usize, y: usize, stamp: u64)
-    requires { ⌜ (8192 ≤ length (now w2)) × (x < 1024) × (y < 1024) × (stamp < 16384) ⌝ }
-    ensures { λ _. ⌜ now (w2 .exit) ≡ joined x y stamp (now (w2 .entry)) ⌝ }
-{
-    w2[TABLE + x] = y as u64 + 1 + PARTNER_FIELD * stamp;
-    w2[TABLE + y] = x as u64 + 1 + PARTNER_FIELD * stamp;
-}
 
 // The pair x, y goes out of the table.
 fn part(w2: &mut [u64], x: usize, y: usize)
@@ -48,7 +41,7 @@ fn join_marked(w2: &mut [u64], mark: u64, x: usize, y: usize, stamp: u64)
     ensures { λ _. ⌜ now (w2 .exit) ≡ cond (eqb mark 1) (joined x y stamp (now (w2 .entry))) (now (w2 .entry)) ⌝ }
 {
     if mark == 1 {
-        join(w2, x, y, stamp);
+        partners::join(w2, x, y, stamp);
     }
 }
 
@@ -141,7 +134,7 @@ fn undo_leaf(w2: &mut [u64], u: usize, v: usize, stamp: u64)
         (b .w) (leaf u v) (b .number) (b .from) (b .pairs)) ⌝ }
 {
     if w2[TABLE + u] == 0 {
-        join(w2, u, v, stamp);
+        partners::join(w2, u, v, stamp);
     }
 }
 

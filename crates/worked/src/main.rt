@@ -124,8 +124,21 @@ fn pair(pairing: &[u8], i: usize)
     io::print_decimal(1, p.b as u64);
 }
 
-// Solves what the empty slip leaves of the list, which pairs 12 cells, and writes the pairs.
-fn show_solved(name: &[u8], list: &[u8], empty: &[u8]) {
+// Writes the first pairs of a pairing.
+fn show_pairs(pairing: &[u8], pairs: usize)
+    requires { ⌜ (pairs ≤ 20) × (64 ≤ length (now pairing)) ⌝ }
+{
+    let mut i = 0;
+    while i < pairs {
+        pair(pairing, 4 + 3 * i);
+        i += 1;
+    }
+}
+
+// Solves what the empty slip leaves of the list, and writes so many pairs.
+fn show_solved(name: &[u8], list: &[u8], empty: &[u8], pairs: usize)
+    requires { ⌜ pairs ≤ 20 ⌝ }
+{
     let mut work_a = [0u64; 8192];
     let mut work_b = [0u64; 8192];
     let mut pairing = [0u8; 64];
@@ -135,52 +148,46 @@ fn show_solved(name: &[u8], list: &[u8], empty: &[u8]) {
             line(name, b"bytes of the pairing ", k as u64);
             io::write_all(1, name);
             io::write_all(1, b"pairs");
-            pair(&pairing, 4);
-            pair(&pairing, 7);
-            pair(&pairing, 10);
-            pair(&pairing, 13);
-            pair(&pairing, 16);
-            pair(&pairing, 19);
+            show_pairs(&pairing, pairs);
             io::write_all(1, b"\n");
         }
         Lengths::Two { .. } => line(name, b"lengths ", 2),
     }
 }
 
-// Writes the pairs 0-1, 0-2, .., of c cells, one point each: m of them from the fifth byte on.
-fn fill_complete(list: &mut [u8], c: usize, m: usize)
-    requires { ⌜ (m ≤ 78) × (4 + 5 * m ≤ length (now list)) ⌝ }
+// Writes from place `start` on the m pairs of c cells from the cell `low` on, one point each, in order.
+fn fill_complete(list: &mut [u8], start: usize, low: usize, c: usize, m: usize)
+    requires { ⌜ (m ≤ 78) × (start ≤ 1024) × (low ≤ 64) × (c ≤ 64) × (start + 5 * m ≤ length (now list)) ⌝ }
     ensures { λ _. ⌜ length (now (list .exit)) ≡ length (now (list .entry)) ⌝ }
 {
-    let mut a = 0;
-    let mut b = 1;
+    let mut a = low;
+    let mut b = low + 1;
     let mut i = 0;
     while i < m {
-        let at = 4 + 5 * i;
+        let at = start + 5 * i;
         list[at] = (a / 4 % 256) as u8;
-        list[at + 1] = (a % 4 * 64) as u8;
+        list[at + 1] = (a % 4 * 64 + b / 16 % 64) as u8;
         list[at + 2] = (b % 16 * 16) as u8;
         list[at + 4] = 1;
         i += 1;
         b += 1;
-        if c <= b {
+        if low + c <= b {
             a += 1;
             b = a + 1;
         }
     }
 }
 
-// Shows the list of all m pairs of c cells; `last` is the last byte of its header.
-fn show_complete(name: &[u8], c: usize, m: usize, last: u8, empty: &[u8], list: &mut [u8])
-    requires { ⌜ (m ≤ 78) × (4 + 5 * m ≤ length (now list)) ⌝ }
+// Solves the list of n cells with m entries, whose header is written first, and writes so many pairs.
+fn show_complete(name: &[u8], n: usize, m: usize, empty: &[u8], list: &mut [u8], pairs: usize)
+    requires { ⌜ (m ≤ 132) × (4 + 5 * m ≤ length (now list)) × (pairs ≤ 20) ⌝ }
 {
-    fill_complete(list, c, m);
     list[0] = 0x10;
-    list[1] = (2 * (c % 64)) as u8;
-    list[2] = 0x04;
-    list[3] = last;
+    list[1] = (2 * (n % 64)) as u8;
+    list[2] = (m / 16 % 256) as u8;
+    list[3] = (m % 16 * 16) as u8;
     let end = 4 + 5 * m;
-    show_solved(name, &list[0..end], empty);
+    show_solved(name, &list[0..end], empty, pairs);
 }
 
 fn main() {
@@ -214,21 +221,34 @@ fn main() {
         b"\x30\x08\x00\x10\x0C\x01",
     );
     let mut twelve = [0u8; 334];
+    fill_complete(&mut twelve, 4, 0, 12, 66);
     show_complete(
         b"all pairs of 12 cells, one point each: ",
         12,
         66,
-        0x20,
         b"\x30\x18\x00\x00",
         &mut twelve,
+        6,
     );
     let mut thirteen = [0u8; 394];
+    fill_complete(&mut thirteen, 4, 0, 13, 78);
     show_complete(
         b"all pairs of 13 cells, one point each: ",
         13,
         78,
-        0xE0,
         b"\x30\x1A\x00\x00",
         &mut thirteen,
+        6,
+    );
+    let mut twice = [0u8; 664];
+    fill_complete(&mut twice, 4, 0, 12, 66);
+    fill_complete(&mut twice, 334, 12, 12, 66);
+    show_complete(
+        b"all pairs of 12 cells twice over, one point each: ",
+        24,
+        132,
+        b"\x30\x30\x00\x00",
+        &mut twice,
+        12,
     );
 }

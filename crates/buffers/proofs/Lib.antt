@@ -1,0 +1,2 @@
+-- The laws of the words of a buffer.
+pub mod Same

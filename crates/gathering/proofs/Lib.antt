@@ -1,0 +1,3 @@
+-- The laws of a group gathered.
+pub mod Runs
+pub mod Gathering

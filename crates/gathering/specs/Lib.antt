@@ -1,0 +1,2 @@
+-- A group gathered for crate sets.
+pub mod Gathered

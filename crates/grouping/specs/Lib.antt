@@ -1,0 +1,3 @@
+-- The groups of the cells left, by labels.
+pub mod Labels
+pub mod Finding
