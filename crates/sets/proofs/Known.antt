@@ -1,16 +1,18 @@
--- What is known of sets. In order: a buffer that keeps it (`Kept`) through calls and where a set becomes known; the
--- table cleared set by set (`Cleared`), until nothing is known (`cleared-all`); being ready then (`ready-forgotten`),
--- and after a call for a smaller set (`ready-kept`).
-use mathlib.Core.Path.{_≡_, refl, _∙_}
+-- What is known of sets. In order: a buffer that keeps it (`Kept`) through calls and where a set becomes known; a part
+-- of the table cleared, so that nothing is known of its sets (`part-cleared`); being ready then (`ready-forgotten`), and
+-- after a call for a smaller set (`ready-kept`).
+use mathlib.Core.Path.{_≡_, refl, sym, ap, _∙_}
 use mathlib.Core.Logic.{_≢_}
 use mathlib.Core.Bool.{Bool}
-use mathlib.Core.List.{List}
+use mathlib.Core.List.{List, _++_}
 use Prim.Native.Nat.{ℕ, _+_, _-_, _^_, _≤_, _<_}
 use native.Mathlib.Omega.{arith}
-use lib.ListN.{length, length-set, getD, set, take}
-use lib.Seq.{getD-set-same, getD-set-other, take-set-le}
+use borrow.Rule.Slice.PartMut.{midOf, postOf, putMid, same-len-mid, mid-len, take-put}
+use lib.ListN.{length, length-set, length-replicate, getD, getD-replicate, set, take, List·getD-append}
+use lib.Seq.{getD-set-same, getD-set-other, take-set-le, length-take-le, getD-drop, drop-at}
 use lib.Pow.{pow-pos, pow-mono}
 use Rattle.buffers.specs.Map.{unit, atSets}
+use Rattle.buffers.specs.Buffers.{zeros}
 use Rattle.matching.proofs.Tests.{Test, pass, fail, eqT}
 use Rattle.sets.specs.Sets.{Best, Known, Kept, Ready, Forgotten}
 
@@ -41,30 +43,25 @@ kept-more {ws} {w0} {w1} {k} s v l b h = record {
 
 -- ---- the table is cleared
 
--- Of the sets below n nothing is known.
-pub record Cleared (n : ℕ) (w0 w1 : List ℕ) : Type 0 where
-  pub long : length w1 ≡ length w0
-  pub none : (s : ℕ) → s < n → getD w1 (atSets + s) 0 ≡ 0
-  pub front : take atSets w1 ≡ take atSets w0
-
-pub cleared-none : {w : List ℕ} → Cleared 0 w w
-cleared-none = record { long = refl; none = λ s l. absurd (omega arith); front = refl }
-
-pub cleared-more : {n : ℕ} {w0 w1 : List ℕ} → atSets + n < length w1 → Cleared n w0 w1
-    → Cleared (n + 1) w0 (set w1 (atSets + n) 0)
-cleared-more {n} {w0} {w1} l c = record {
-  long = length-set w1 (atSets + n) 0 ∙ c .long;
-  none = λ s m. go s m (eqT s n);
-  front = take-set-le atSets w1 (atSets + n) 0 (omega arith) ∙ c .front;
+pub part-cleared : (w ys : List ℕ) (k e : ℕ) → 8192 ≤ length w → k ≤ 12 → e ≡ atSets + 2 ^ k
+    → ys ≡ zeros (length (midOf atSets (e - atSets) w)) → Forgotten k w (putMid atSets (e - atSets) w ys)
+part-cleared w ys k e room few q z = record {
+  long = same-len-mid atSets (e - atSets) w ys wide;
+  none = λ s l.
+      sym (getD-drop atSets (putMid atSets (e - atSets) w ys) s 0)
+      ∙ ap (λ (xs : List ℕ). getD xs s 0) (drop-at (take atSets w) (ys ++ postOf atSets (e - atSets) w) atSets
+      (length-take-le atSets w (omega arith)))
+      ∙ List·getD-append ys (postOf atSets (e - atSets) w) 0 s (omega (arith, wide, long, q))
+      ∙ ap (λ (xs : List ℕ). getD xs s 0) z
+      ∙ getD-replicate {A = ℕ} (length (midOf atSets (e - atSets) w)) s 0 0 (omega (arith, long, q));
+  front = take-put atSets (e - atSets) w ys (omega arith);
 }
   where
-    go : (s : ℕ) → s < n + 1 → {t : Bool} → Test (s ≡ n) (s ≢ n) t → getD (set w1 (atSets + n) 0) (atSets + s) 0 ≡ 0
-    go s m (pass q) = rw q (getD-set-same w1 (atSets + n) 0 0 l)
-    go s m (fail q) =
-        getD-set-other w1 (atSets + n) (atSets + s) 0 0 (λ z. q (omega (arith, z))) ∙ c .none s (omega (arith, q))
+    wide : length ys ≡ length (midOf atSets (e - atSets) w)
+    wide = ap length z ∙ length-replicate {A = ℕ} (length (midOf atSets (e - atSets) w)) 0
 
-pub cleared-all : {n k : ℕ} {w0 w1 : List ℕ} → Cleared n w0 w1 → 2 ^ k ≤ n → Forgotten k w0 w1
-cleared-all c l = record { long = c .long; none = λ s m. c .none s (omega arith); front = c .front }
+    long : length (midOf atSets (e - atSets) w) ≡ e - atSets
+    long = mid-len atSets e w (let m : 2 ^ k ≤ 2 ^ 12 = pow-mono few in omega (arith, q))
 
 -- ---- being ready
 

@@ -1,4 +1,5 @@
 // Inner, for solving: the heaviest pairing of a set of at most 12 cells, by their places. See specs/Sets.
+use buffers;
 use buffers::map::SETS;
 ghost use mathlib.Core.Path.{_≡_};
 ghost use Prim.Native.Nat.{_-_, _^_, _<_, _≤_};
@@ -32,12 +33,8 @@ pub fn clear_sets(w1: &mut [u64], k: usize)
     requires { ⌜ (8192 ≤ length (now w1)) × (k ≤ 12) ⌝ }
     ensures { λ _. ⌜ Forgotten k (now (w1 .entry)) (now (w1 .exit)) ⌝ }
 {
-    let end = 1 << k;
-    let mut s = 0;
-    while s < end {
-        w1[SETS + s] = 0;
-        s += 1;
-    }
+    let end = SETS + (1 << k);
+    buffers::clear(&mut w1[SETS..end]);
 }
 
 // The lowest place of the set.
