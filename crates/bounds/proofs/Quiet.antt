@@ -181,6 +181,8 @@ module _ {w : Points} {x : declared.Step} {low r : ℕ} where
     where
       go : (s : Step) (rule : Rule) (c : ℕ) → told (found.Leaf v u) ≡ to_tell (some s) → IsStep 1024 w rule c s
           → Quiet r (apply w s)
+      go (leaf u' v') by_ring c t p = elim p [ ]
+      go (leaf u' v') by_chain c t p = elim p [ ]
       go (leaf u' v') by_leaf c t p =
           let qu : u ≡ u' = ap (λ (y : Answer). get_or y.1 1 0) t in
           let qv : v ≡ v' = ap (λ (y : Answer). get_or y.1 0 0) t in
@@ -194,6 +196,8 @@ module _ {w : Points} {x : declared.Step} {low r : ℕ} where
     where
       go : (s : Step) (rule : Rule) (c : ℕ) → told (found.Ring u z) ≡ to_tell (some s) → IsStep 1024 w rule c s
           → Quiet r (apply w s)
+      go (ring u' z' inner) by_leaf c t p = elim p [ ]
+      go (ring u' z' inner) by_chain c t p = elim p [ ]
       go (ring u' z' inner) by_ring c t p =
           let qu : u ≡ u' = ap (λ (y : Answer). get_or y.1 0 0) t in
           let qz : z ≡ z' = ap (λ (y : Answer). get_or y.1 1 0) t in
@@ -206,6 +210,8 @@ module _ {w : Points} {x : declared.Step} {low r : ℕ} where
     where
       go : (s : Step) (rule : Rule) (c : ℕ) → told (found.Chain u v z) ≡ to_tell (some s) → IsStep 1024 w rule c s
           → Quiet r (apply w s)
+      go (chain u' v' z' inner) by_leaf c t p = elim p [ ]
+      go (chain u' v' z' inner) by_ring c t p = elim p [ ]
       go (chain u' v' z' inner) by_chain c t p =
           let qu : u ≡ u' = ap (λ (y : Answer). get_or y.1 0 0) t in
           let qz : z ≡ z' = ap (λ (y : Answer). get_or y.1 2 0) t in

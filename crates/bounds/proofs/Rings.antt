@@ -18,7 +18,7 @@ use Rattle.matching.specs.Steps.{Rule, by_leaf, by_ring, Step, leaf, ring, chain
 use Rattle.matching.specs.Shapes.{IsLeaf, IsRing, IsStep, first, last}
 use Rattle.matching.proofs.Tests.{Test, pass, fail, is_test, eq_test, lt_test, fails}
 use Rattle.matching.proofs.Members.{clash, mem_head, mem_on}
-use Rattle.matching.proofs.Pairs.{Same, same_t}
+use Rattle.matching.proofs.Pairs.{Same, same_test}
 use Rattle.matching.proofs.Sums.{touches_test}
 use Rattle.matching.proofs.Put.{put_else, dropped_held, dropped_most}
 use Rattle.matching.proofs.Partners.{partners_one, partners_few, partners_more_than_one}
@@ -79,6 +79,8 @@ module _ {w w' : Points} (g : Graph 1024 w') (kept : Stays w w') where
           (way_out g r.row) (omega (arith, last_live w' u inner u r.row.live, g.turned u (last u inner)))
 
   keep_step : (c : ℕ) (s : Step) → IsStep 1024 w' by_ring c s → IsStep 1024 w by_ring c s
+  keep_step c (leaf u v) p = elim p [ ]
+  keep_step c (chain u v z inner) p = elim p [ ]
   keep_step c (ring u z inner) p = (p.0, keep_ring p.1)
 
 -- ---- the two steps
@@ -125,7 +127,7 @@ module _ {w : Points} (g : Graph 1024 w) where
 
       -- a pair that is not u, z
       off : (a b : ℕ) → dropped inner w a b ≡ 0 → (Same u z a b → ⊥) → ringed w u z inner a b ≡ 0
-      off a b o n = put_else u z _ (dropped inner w) a b (fails (same_t u z a b) n) ∙ o
+      off a b o n = put_else u z _ (dropped inner w) a b (fails (same_test u z a b) n) ∙ o
 
       inside : (a b : ℕ) → (mem a inner ≡ true) ⊎ (mem b inner ≡ true) → dropped inner w a b ≡ 0
       inside a b m = at (lt_test 0 (dropped inner w a b))
@@ -175,6 +177,8 @@ module _ {w : Points} {x : declared.Step} {low : ℕ} where
     where
       go : (s : Step) (rule : Rule) (c : ℕ) → told (found.Leaf v u) ≡ to_tell (some s) → IsStep 1024 w rule c s
           → RingQuiet low (apply w s)
+      go (leaf u' v') by_ring c t p = elim p [ ]
+      go (leaf u' v') Rattle.matching.specs.Steps.by_chain c t p = elim p [ ]
       go (leaf u' v') by_leaf c t p =
           let qu : u ≡ u' = ap (λ (y : Answer). get_or y.1 1 0) t in
           let l = p.1 in
@@ -188,6 +192,8 @@ module _ {w : Points} {x : declared.Step} {low : ℕ} where
     where
       go : (s : Step) (rule : Rule) (c : ℕ) → told (found.Ring u z) ≡ to_tell (some s) → IsStep 1024 w rule c s
           → LowestRing w s → RingQuiet z (apply w s)
+      go (ring u' z' inner) by_leaf c t p f = elim p [ ]
+      go (ring u' z' inner) Rattle.matching.specs.Steps.by_chain c t p f = elim p [ ]
       go (ring u' z' inner) by_ring c t p f =
           let qu : u ≡ u' = ap (λ (y : Answer). get_or y.1 0 0) t in
           let qz : z ≡ z' = ap (λ (y : Answer). get_or y.1 1 0) t in

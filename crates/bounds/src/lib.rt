@@ -1,4 +1,6 @@
 // Inner, for the reduction: the bounds of the search, kept from step to step. See specs/Bounds.
+#![tactic(auto)]
+
 ghost use Rattle.std.specs.Prelude.{◌≡◌, ◌<◌, min};
 ghost use Rattle.matching.specs.Graph.{degree};
 ghost use Rattle.slots.specs.Slots.{Holds, graph_of};

@@ -1,4 +1,6 @@
 // Inner, for every call: the work buffers lent to it. `map` says what stands where in them.
+#![tactic(auto)]
+
 pub mod map;
 
 ghost use Rattle.buffers.specs.Buffers.{Cleared};

@@ -10,11 +10,11 @@ use lib.ListN.{length, get_or, take, length-append}
 use lib.Seq.{take-suc, get_or_at}
 use Rattle.cellfile.specs.Bytes.{number, bytes}
 use Rattle.cellfile.specs.Fits.{AreBytes}
-use Rattle.cellfile.proofs.All.{all_get_d}
+use Rattle.cellfile.proofs.All.{all_get_or}
 
 -- a missing byte counts as 0
 byte_lt : (s : List ℕ) (i : ℕ) → AreBytes s → get_or s i 0 < 256
-byte_lt s i a = all_get_d (λ (b : ℕ). b < 256) s i 0 (omega arith) a
+byte_lt s i a = all_get_or (λ (b : ℕ). b < 256) s i 0 (omega arith) a
 
 pub length_bytes : (k v : ℕ) → length (bytes k v) ≡ k
 unfolding bytes

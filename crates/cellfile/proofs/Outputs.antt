@@ -132,7 +132,8 @@ unfolding word_bytes write_records
 words_records ws [] whole = refl
 words_records ws (w ∷ words) whole = rw (write_fields ws w whole, words_records ws words whole)
 
-entries_records : (es : List Entry) → word_bytes 8 (map word_of_short es) ≡ write_records short_list.entry (map as_fields es)
+entries_records : (es : List Entry)
+    → word_bytes 8 (map word_of_short es) ≡ write_records short_list.entry (map as_fields es)
 unfolding word_bytes write_records
 entries_records [] = refl
 entries_records (e ∷ es) = rw (entries_records es)

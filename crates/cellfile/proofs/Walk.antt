@@ -31,7 +31,8 @@ from_place at s = take_all (length s - at) (drop at s) (omega (arith, length-dro
 
 -- ---- the record at a place
 
-pub record_in_is : (ws s : List ℕ) (m i : ℕ) → i < m → get_or (read_records ws m s) i [] ≡ read_record ws (drop (size ws * i)
+pub record_in_is : (ws s : List ℕ) (m i : ℕ) → i < m
+    → get_or (read_records ws m s) i [] ≡ read_record ws (drop (size ws * i)
     s)
 unfolding read_records
 record_in_is ws s zero i l = absurd (omega arith)
@@ -108,7 +109,8 @@ step_is s i t l r = record {
   cell_fits = r.cell_fits;
 }
 
-pub pair_is : (s : List ℕ) (i : ℕ) (p : PairEntry) → i < count_of s → PairAt (rest_from (4 + 3 * i) s) p → PairRead s i p
+pub pair_is : (s : List ℕ) (i : ℕ) (p : PairEntry) → i < count_of s → PairAt (rest_from (4 + 3 * i) s) p
+    → PairRead s i p
 pair_is s i p l r = record {
   is = r.is ∙ rw (from_place (4 + 3 * i) s, record_at_is pairing s i l);
   a_fits = r.a_fits;

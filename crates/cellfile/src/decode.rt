@@ -10,7 +10,7 @@ ghost use Rattle.cellfile.specs.Reads.{EntryRead, StepRead, PairRead};
 use crate::format::{ENTRY_BYTES, HEADER_BYTES, PAIR_BYTES, STEP_BYTES};
 
 // The fields of a header.
-#[derive(Drop)]
+#[derive(Clone, Copy)]
 pub struct Header {
     pub kind: u64,
     pub n: usize,
@@ -19,14 +19,14 @@ pub struct Header {
 }
 
 // Where the entries of a list start, and the bytes of each.
-#[derive(Drop)]
+#[derive(Clone, Copy)]
 pub struct Shape {
     pub start: usize,
     pub bytes: usize,
 }
 
 // An entry of a list.
-#[derive(Drop)]
+#[derive(Clone, Copy)]
 pub struct Entry {
     pub a: usize,
     pub b: usize,
@@ -34,14 +34,14 @@ pub struct Entry {
 }
 
 // An entry of a slip.
-#[derive(Drop)]
+#[derive(Clone, Copy)]
 pub struct SlipStep {
     pub rule: u64,
     pub cell: usize,
 }
 
 // An entry of a pairing.
-#[derive(Drop)]
+#[derive(Clone, Copy)]
 pub struct PairEntry {
     pub a: usize,
     pub b: usize,

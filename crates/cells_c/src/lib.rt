@@ -1,6 +1,8 @@
 // The calls for C: include/cells.h declares them. Every slice is a pointer and a length; each call answers 0 or the
 // refusal's number, and on refusal leaves the numbers that it would answer unchanged. cells_entry answers 1 with them,
 // or 0 and leaves them unchanged.
+#![tactic(auto)]
+
 ghost use Rattle.std.specs.Prelude.{◌≡◌, length};
 ghost use Rattle.buffers.specs.Buffers.{lent, Cleared};
 ghost use Rattle.weighing.specs.Weigh.{weighing};
@@ -8,7 +10,7 @@ ghost use Rattle.cellfile.specs.Answers.{written};
 ghost use Rattle.reduction.specs.Calls.{replaying, reducing, replay_short, slip_file, short_file};
 ghost use Rattle.starting.specs.Steps.{reduce_steps};
 ghost use Rattle.lifting.specs.Calls.{solving, solve_file, lifting, lift_file, lift_origins};
-ghost use Rattle.lifting.specs.Calls.{pairing as pairingAnswer, pairing_file, pairing_origins};
+ghost use Rattle.lifting.specs.Calls.{pairing as pairing_answer, pairing_file, pairing_origins};
 ghost use Rattle.tidying.specs.Calls.{tidying, tidy_file};
 ghost use Rattle.view.specs.Serving.{serving};
 ghost use Rattle.checks.specs.Calls.{answered};
@@ -215,22 +217,22 @@ pub extern "C" fn cells_pair(
     pairing_len: &mut u64,
     origins_len: &mut u64,
 ) -> u32
-    ensures answer { result ≡ (pairingAnswer list.now
+    ensures answer { result ≡ (pairing_answer list.now
         (lent work_a.old work_b.old) (length pairing.old)
         (length origins.old)).0 }
     ensures values { (pairing_len.new ≡ value_or 0 pairing_len.old
-        (pairingAnswer list.now
+        (pairing_answer list.now
         (lent work_a.old work_b.old) (length pairing.old)
         (length origins.old)))
         × (origins_len.new ≡ value_or 1 origins_len.old
-        (pairingAnswer list.now
+        (pairing_answer list.now
         (lent work_a.old work_b.old) (length pairing.old)
         (length origins.old))) }
-    ensures outputs { (pairing.new ≡ written (pairingAnswer list.now
+    ensures outputs { (pairing.new ≡ written (pairing_answer list.now
         (lent work_a.old work_b.old) (length pairing.old)
         (length origins.old)).0
         (pairing_file list.now) pairing.old)
-        × (origins.new ≡ written (pairingAnswer list.now
+        × (origins.new ≡ written (pairing_answer list.now
         (lent work_a.old work_b.old) (length pairing.old)
         (length origins.old)).0
         (pairing_origins list.now) origins.old) }

@@ -114,7 +114,8 @@ pub framed_rows : (lent : List ℕ) (rows : Bool → List Row) {few : Bool} {out
 framed_rows lent rows {few} {outs} e d = (d.says ∙ ap (λ t. filing (rows t) (rooms outs)) e, d.writes)
 
 -- a call on a list
-pub framed : (lent list : List ℕ) (own : List Row) {few : Bool} {outs : List Output} {a : Answer} → few ≡ too_few_words lent
+pub framed : (lent list : List ℕ) (own : List Row) {few : Bool} {outs : List Output} {a : Answer}
+    → few ≡ too_few_words lent
     → Does (call_rows few list ++ own) outs a
     → (a ≡ answering lent list own (rooms outs))
     × All (λ (o : Output). o.2 ≡ written a.0 o.0 o.1) outs

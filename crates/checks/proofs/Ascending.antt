@@ -1,6 +1,6 @@
 -- Entries and pairs in file order, by their keys. The cells of an entry and of a pair are in their order and below
--- 1,024, so the two are the same where their keys are equal (`key_test`). In order: keys; what ascends (`entries_above_is`,
--- `pairs_above`); what an entry says of a pair, by their keys (`not_joined`). Assumes nothing.
+-- 1,024, so the two are the same where their keys are equal (`key_test`). In order: keys; what ascends
+-- (`entries_above_is`, `pairs_above`); what an entry says of a pair, by their keys (`not_joined`). Assumes nothing.
 use mathlib.Core.Path.{◌≡◌, refl, ◌∙◌}
 use mathlib.Core.Logic.{◌⊎◌, inl, inr, ◌≢◌}
 use mathlib.Core.Bool.{true}
@@ -11,7 +11,7 @@ use Rattle.matching.specs.Lists.{All, Ascends}
 use Rattle.matching.specs.Pairs.{Pair, same}
 use Rattle.matching.specs.Listed.{Entry, joined, listed}
 use Rattle.matching.proofs.Tests.{Test, test, le_test, and_test, map_test, holds, fails}
-use Rattle.matching.proofs.Pairs.{Same, same_t}
+use Rattle.matching.proofs.Pairs.{Same, same_test}
 use Rattle.matching.proofs.Listed.{joined_apart, listed_apart}
 use Rattle.cellfile.specs.Files.{key, entry_key, pair_key}
 use Rattle.checks.specs.Refusals.{ascending_from}
@@ -28,7 +28,7 @@ OrderedPairs ps = All (λ (p : Pair). Ordered p.0 p.1) ps
 
 -- Cells in their order are the same where their keys are equal.
 pub key_test : (x y a b : ℕ) → Ordered x y → Ordered a b → Test (key x y ≡ key a b) (key x y ≢ key a b) (same x y a b)
-key_test x y a b p q = map_test one (λ h. two h.0) (same_t x y a b)
+key_test x y a b p q = map_test one (λ h. two h.0) (same_test x y a b)
   where
     one : Same x y a b → key x y ≡ key a b
     one (inl h) = omega arith
@@ -63,7 +63,8 @@ ascending_ascends f low (x ∷ xs) s =
 
 -- After an entry whose key is not below the pair's all entries are above the pair; after a pair whose key is not below
 -- the entry's all pairs are above the entry.
-pub entries_above_is : (e : Entry) (es : List Entry) (p : Pair) → ascending_from (suc (entry_key e)) (map entry_key es) ≡ true
+pub entries_above_is : (e : Entry) (es : List Entry) (p : Pair)
+    → ascending_from (suc (entry_key e)) (map entry_key es) ≡ true
     → pair_key p ≤ entry_key e → All (λ (x : Entry). pair_key p < entry_key x) es
 entries_above_is e es p s h =
     ascending_all entry_key (λ x. pair_key p < entry_key x) (suc (entry_key e)) es (λ x k. omega arith) s

@@ -11,7 +11,7 @@ use lib.Dec.{eqb, ltb, leb}
 use lib.ListN.{length, drop, drop_of_length-le}
 use borrow.Author.Tests.{lt-ltb, le-ltb, le-leb, lt-leb, eq-eqb, ne_eqb}
 use Rattle.cellfile.specs.Files.{cells_of, count_of, key, entry_key, file_length, raw_list, list_layout, entries_all}
-use Rattle.checks.specs.Refusals.{Row, ascending_from, first, too_few_words, lists, list_rows, not_alist, is_too_large}
+use Rattle.checks.specs.Refusals.{Row, ascending_from, first, too_few_words, lists, list_rows, is_no_list, is_too_large}
 use Rattle.checks.specs.Refusals.{wrong_length, stray_pair, stray_entry, unordered, loose_pair, is_bad_raw}
 use Rattle.checks.specs.Calls.{call_rows}
 use Rattle.checks.specs.Loops.{head_rows, entry_rows, some_from, WholeFile}
@@ -43,21 +43,9 @@ module _ (n a b : ℕ) where
   pub stray_not : b < n → a < b → stray_pair n a b ≡ false
   stray_not p q = rw (lt-leb n a (omega arith), lt-leb n b p, lt-leb b a q)
 
--- a pair of cells that 13 refuses, or not
-module _ (n a b : ℕ) where
-  pub loose_twice : a ≡ b → loose_pair n a b ≡ true
-  loose_twice h = rw (eq-eqb a b h)
-
-  module _ (two : a ≢ b) where
-    pub loose_first : n ≤ a → loose_pair n a b ≡ true
-    loose_first h = rw (ne_eqb a b two, le-leb n a h)
-
-    module _ (one : a < n) where
-      pub loose_second : n ≤ b → loose_pair n a b ≡ true
-      loose_second h = rw (ne_eqb a b two, lt-leb n a one, le-leb n b h)
-
-      pub loose_not : b < n → loose_pair n a b ≡ false
-      loose_not h = rw (ne_eqb a b two, lt-leb n a one, lt-leb n b h)
+-- a pair of cells that 13 does not refuse
+pub loose_not : (n a b : ℕ) → a ≢ b → a < n → b < n → loose_pair n a b ≡ false
+loose_not n a b two one h = rw (ne_eqb a b two, lt-leb n a one, lt-leb n b h)
 
 -- the conditions of 5 and 6 of the entries from place i on, by the entry read there
 abbrev pub strays_from : List ℕ → ℕ → Bool
@@ -121,12 +109,12 @@ module _ (s : List ℕ) where
   entries_6 e f = rw e (sym f)
 
 module _ (s : List ℕ) (h : Header) (r : HeaderRead s h) where
-  pub kind_wrong : (kind : ℕ) → 4 ≤ length s → (h.kind ≡ kind → ⊥) → true ≡ not_alist (kind ∷ []) s
-  unfolding not_alist
+  pub kind_wrong : (kind : ℕ) → 4 ≤ length s → (h.kind ≡ kind → ⊥) → true ≡ is_no_list (kind ∷ []) s
+  unfolding is_no_list
   kind_wrong kind l k = rw (le-ltb (length s) 4 l, ← r.kind, ne_eqb kind h.kind (λ e. k (omega arith)))
 
-  pub kind_right : (kind : ℕ) → 4 ≤ length s → h.kind ≡ kind → not (eqb h.zeros 0) ≡ not_alist (kind ∷ []) s
-  unfolding not_alist
+  pub kind_right : (kind : ℕ) → 4 ≤ length s → h.kind ≡ kind → not (eqb h.zeros 0) ≡ is_no_list (kind ∷ []) s
+  unfolding is_no_list
   kind_right kind l k = rw (le-ltb (length s) 4 l, ← r.kind, eq-eqb kind h.kind (omega arith), ← r.zeros)
 
   pub cells_many : 1024 < h.n → true ≡ is_too_large s
@@ -154,10 +142,10 @@ length_right s m e f q =
 
 -- the first row of a header that holds
 module _ (kinds s : List ℕ) where
-  pub head_2 : not_alist kinds s ≡ true → 2 ≡ first (head_rows kinds s)
+  pub head_2 : is_no_list kinds s ≡ true → 2 ≡ first (head_rows kinds s)
   head_2 a = rw a
 
-  module _ (a : not_alist kinds s ≡ false) where
+  module _ (a : is_no_list kinds s ≡ false) where
     pub head_3 : is_too_large s ≡ true → 3 ≡ first (head_rows kinds s)
     head_3 b = rw (a, b)
 
@@ -186,7 +174,7 @@ module _ (s : List ℕ) where
 
   pub raw_head : {k : ℕ} → k ≡ first heads → 0 < k → true ≡ is_bad_raw s
   unfolding is_bad_raw
-  raw_head {k} e l = go (not_alist (raw_list.kind ∷ []) s) (is_too_large s) (wrong_length s) _ e
+  raw_head {k} e l = go (is_no_list (raw_list.kind ∷ []) s) (is_too_large s) (wrong_length s) _ e
     where
       go : (a b c t : Bool) → k ≡ first ((2, a) ∷ (3, b) ∷ (4, c) ∷ []) → true ≡ (a || (b || (c || t)))
       go true b c t h = refl

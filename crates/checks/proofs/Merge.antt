@@ -186,7 +186,8 @@ module _ (list : List ℕ) (accepted : first (list_rows lists list) ≡ 0) where
         ascends = a.1;
       }
 
-  pub pairs_ascend : (pairing : List ℕ) → bad_pairing (cells_of list) pairing ≡ false → AscendingPairs (pairs_of pairing)
+  pub pairs_ascend : (pairing : List ℕ) → bad_pairing (cells_of list) pairing ≡ false
+      → AscendingPairs (pairs_of pairing)
   pairs_ascend pairing formed =
       let a = bad_pairing_none (cells_of list) pairing formed in
       record {

@@ -14,7 +14,8 @@ use Rattle.matching.specs.Pairs.{Pair}
 use Rattle.matching.specs.Listed.{Entry}
 use Rattle.cellfile.specs.Files.{Layout, kind_of, cells_of, count_of, zeros_of, file_length, pairing, as_pair}
 use Rattle.cellfile.specs.Files.{read_entries, pairs_of, list_layout, entries_all, entry_key}
-use Rattle.checks.specs.Refusals.{Row, first, list_rows, not_alist, wrong_length, stray_pair, stray_entry, is_too_large}
+use Rattle.checks.specs.Refusals.{Row, first, list_rows, is_no_list, wrong_length, stray_pair, stray_entry}
+use Rattle.checks.specs.Refusals.{is_too_large}
 use Rattle.checks.specs.Refusals.{ascending_from, unordered, misheaded, bad_pair, bad_pairing, loose_pair, is_bad_raw}
 use Rattle.matching.proofs.Alls.{all_map}
 use Rattle.cellfile.proofs.All.{all_values}
@@ -55,8 +56,9 @@ list_none kinds s e = first_none (list_rows kinds s) (omega arith) e
 
 -- ---- conditions
 
-pub not_a_list_none : (kinds s : List ℕ) → not_alist kinds s ≡ false → (mem (kind_of s) kinds ≡ true) × (zeros_of s ≡ 0)
-unfolding not_alist
+pub not_a_list_none : (kinds s : List ℕ) → is_no_list kinds s ≡ false
+    → (mem (kind_of s) kinds ≡ true) × (zeros_of s ≡ 0)
+unfolding is_no_list
 not_a_list_none kinds s e =
     let h = or_none (not (mem (kind_of s) kinds)) _ (or_none (ltb (length s) 4) _ e).1 in
     (not-false _ h.0, differ_none _ _ h.1)
@@ -99,7 +101,7 @@ pub bad_raw_none : (s : List ℕ) → is_bad_raw s ≡ false
     × All (λ (e : Entry). (e.0 ≢ e.1) × (e.0 < cells_of s) × (e.1 < cells_of s)) (entries_all s)
 unfolding is_bad_raw
 bad_raw_none s e =
-    let b = or_none (is_too_large s) _ (or_none (not_alist _ s) _ e).1 in
+    let b = or_none (is_too_large s) _ (or_none (is_no_list _ s) _ e).1 in
     let c = or_none (wrong_length s) _ b.1 in (
       too_large_none s b.0,
       wrong_length_none s c.0,
@@ -133,7 +135,8 @@ bad_pairing_none n s e =
     )
   where
     good : (r : List ℕ) → bad_pair n r ≡ false → (get_or r 0 0 < get_or r 1 0) × (get_or r 1 0 < n)
-    good r h = stray_pair_none n (get_or r 0 0) (get_or r 1 0) (or_none (stray_pair n (get_or r 0 0) (get_or r 1 0)) _ h).0
+    good r h = stray_pair_none n (get_or r 0 0) (get_or r 1 0)
+        (or_none (stray_pair n (get_or r 0 0) (get_or r 1 0)) _ h).0
 
     firsts : (rs : List (List ℕ)) → ascending_from 0 (map (λ (p : Pair). p.0) (map as_pair rs))
         ≡ ascending_from 0 (map (λ (r : List ℕ). get_or r 0 0) rs)

@@ -1,10 +1,10 @@
 -- What is written is not refused. In order: the header of a file that fits is read again (`header_read`), and the
--- entries (`entries_read`); refusals 7 and 9 find no fault in the header (`headed`); a well_formed list passes 2 to 6
+-- entries (`entries_read`); refusals 7 and 9 find no fault in the header (`headed`); a well-formed list passes 2 to 6
 -- (`list_passes`) and is read again (`list_cells`, `list_written`), a raw list passes 13 (`raw_passes`) and is read
 -- again (`raw_cells`, `raw_written`); a slip of steps that have a rule passes 7 (`slip_passes`), and its steps are read
 -- again (`steps_read`); pairs of n cells in file order, as a pairing, pass 9 (`pairing_passes`) and are read again
 -- (`pairs_read`). Assumes nothing.
-use Prim.Native.Nat.{ℕ, suc, ◌+◌, ◌≤◌, ◌<◌}
+use Prim.Native.Nat.{ℕ, suc, ◌≤◌, ◌<◌}
 use mathlib.Core.Path.{◌≡◌, refl, sym, ap, ◌∙◌}
 use mathlib.Core.Logic.{inl, inr, ◌≢◌}
 use mathlib.Core.Bool.{true, false, not}
@@ -20,11 +20,15 @@ use Rattle.matching.proofs.Entries.{accepted_all}
 use Rattle.matching.proofs.Filed.{InOrder}
 use Rattle.matching.proofs.Sums.{each_map, each_all}
 use Rattle.cellfile.specs.Fields.{read_record, write_record, write_records}
-use Rattle.cellfile.specs.Files.{Layout, store_list, raw_list, slip, pairing, file_length, File, write_file, read_entries}
-use Rattle.cellfile.specs.Files.{as_entry, as_fields, entries_of, header, kind_of, cells_of, count_of, zeros_of, as_pair}
-use Rattle.cellfile.specs.Files.{steps_of, pairs_of, pair_fields, key, entry_key, list_layout, entries_all, list_file, raw_file}
+use Rattle.cellfile.specs.Files.{Layout, store_list, raw_list, slip, pairing, file_length, File, write_file}
+use Rattle.cellfile.specs.Files.{read_entries}
+use Rattle.cellfile.specs.Files.{as_entry, as_fields, entries_of, header, kind_of, cells_of, count_of, zeros_of}
+use Rattle.cellfile.specs.Files.{as_pair}
+use Rattle.cellfile.specs.Files.{steps_of, pairs_of, pair_fields, key, entry_key, list_layout, entries_all, list_file}
+use Rattle.cellfile.specs.Files.{raw_file}
 use Rattle.cellfile.specs.Fits.{FitsFields, FitsFile}
-use Rattle.checks.specs.Refusals.{first, lists, list_rows, not_alist, is_too_large, wrong_length, stray_pair, stray_entry}
+use Rattle.checks.specs.Refusals.{first, lists, list_rows, is_no_list, is_too_large, wrong_length, stray_pair}
+use Rattle.checks.specs.Refusals.{stray_entry}
 use Rattle.checks.specs.Refusals.{ascending_from, unordered, misheaded, is_no_rule, bad_slip, bad_pair, bad_pairing}
 use Rattle.checks.specs.Refusals.{loose_pair, is_bad_raw}
 use Rattle.checks.specs.Loops.{head_rows, entry_rows}
@@ -150,7 +154,7 @@ module _ (kind n : ℕ) (es : List Entry) (top : kind < 16) (le : n ≤ 1024) (f
 
     -- refusals 2 to 4 find no fault
     its_head : first (head_rows (kind ∷ []) s) ≡ 0
-    unfolding not_alist is_too_large wrong_length
+    unfolding is_no_list is_too_large wrong_length
     its_head =
         rw (
           le-ltb (length s) 4 (omega (arith, length_file l said)),
@@ -198,7 +202,7 @@ module _ (n : ℕ) (es : List Entry) (le : n ≤ 1024) (few : length es ≤ 4096
       all_true [] = tt
       all_true (e ∷ es) = (omega arith, all_true es)
 
-  -- A well_formed list is not refused.
+  -- A well-formed list is not refused.
   pub list_passes : first (list_rows lists (list_file n es)) ≡ 0
   list_passes =
       first_passed (head_rows lists (list_file n es)) (entry_rows (list_file n es))

@@ -4,7 +4,7 @@ use Rattle.std.specs.Prelude.{ℕ, ◌≤◌, ◌≡◌, Bool, not, ◌||◌, Li
 use Rattle.matching.specs.Lists.{any}
 use Rattle.matching.specs.Listed.{Entry}
 use Rattle.cellfile.specs.Files.{Layout, file_length, cells_of, count_of, entries_all}
-use Rattle.checks.specs.Refusals.{Row, not_alist, is_too_large, wrong_length, stray_entry, unordered}
+use Rattle.checks.specs.Refusals.{Row, is_no_list, is_too_large, wrong_length, stray_entry, unordered}
 use Rattle.checks.specs.Refusals.{ascending_from, bad_pair}
 
 -- A file of m records with all the bytes that its header says.
@@ -15,7 +15,7 @@ pub record WholeFile (l : Layout) (s : List ℕ) (m : ℕ) : Type 0 where
 -- The rows of a list's header and length, and those of its entries, which one walk over them decides: together the rows
 -- of the list.
 abbrev pub head_rows : List ℕ → List ℕ → List Row
-head_rows kinds s = (2, not_alist kinds s) ∷ (3, is_too_large s) ∷ (4, wrong_length s) ∷ []
+head_rows kinds s = (2, is_no_list kinds s) ∷ (3, is_too_large s) ∷ (4, wrong_length s) ∷ []
 
 abbrev pub entry_rows : List ℕ → List Row
 entry_rows s = (5, stray_entry s) ∷ (6, unordered s) ∷ []

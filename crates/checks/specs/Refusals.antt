@@ -1,11 +1,13 @@
 -- 'Refusals in checking order. Each is checked where the call has that input; the first that holds is the answer.'
 -- One row for each number. A call's refusal is the first of its rows; the rows are the same for every call.
-use Rattle.std.specs.Prelude.{ℕ, suc, Bool, true, not, cond, ◌&&◌, ◌||◌, List, [], ◌∷◌, map, ltb, leb, eqb, length, get_or}
+use Rattle.std.specs.Prelude.{ℕ, suc, Bool, true, not, cond, ◌&&◌, ◌||◌, List, [], ◌∷◌, map, ltb, leb, eqb, length}
+use Rattle.std.specs.Prelude.{get_or}
 use Rattle.matching.specs.Lists.{any, mem}
 use Rattle.matching.specs.Pairs.{Pair, Points}
 use Rattle.matching.specs.Pairing.{is_pairing}
 use Rattle.matching.specs.Listed.{Entry}
-use Rattle.cellfile.specs.Files.{kind_of, cells_of, count_of, zeros_of, Layout, slip, pairing, file_length, read_entries}
+use Rattle.cellfile.specs.Files.{kind_of, cells_of, count_of, zeros_of, Layout, slip, pairing, file_length}
+use Rattle.cellfile.specs.Files.{read_entries}
 use Rattle.cellfile.specs.Files.{raw_list, list_layout, entries_all, steps_of, entry_key}
 
 -- A row: the refusal's number, and whether its condition holds.
@@ -26,8 +28,8 @@ too_few_words lent = any (λ (words : ℕ). ltb words 8192) lent
 abbrev pub lists : List ℕ
 lists = 1 ∷ []
 
-unfoldable pub not_alist : List ℕ → List ℕ → Bool
-not_alist kinds s = ltb (length s) 4 || (not (mem (kind_of s) kinds) || not (eqb (zeros_of s) 0))
+unfoldable pub is_no_list : List ℕ → List ℕ → Bool
+is_no_list kinds s = ltb (length s) 4 || (not (mem (kind_of s) kinds) || not (eqb (zeros_of s) 0))
 
 -- 3. 'Its n is above 1,024 or its m above 4,096.'
 unfoldable pub is_too_large : List ℕ → Bool
@@ -54,7 +56,7 @@ unordered s = not (ascending_from 0 (map entry_key (entries_all s)))
 
 abbrev pub list_rows : List ℕ → List ℕ → List Row
 list_rows kinds s =
-    (2, not_alist kinds s)
+    (2, is_no_list kinds s)
     ∷ (3, is_too_large s)
     ∷ (4, wrong_length s)
     ∷ (5, stray_entry s)
@@ -110,5 +112,5 @@ loose_pair n a b = eqb a b || (leb n a || leb n b)
 
 unfoldable pub is_bad_raw : List ℕ → Bool
 is_bad_raw s =
-    not_alist (raw_list.kind ∷ []) s || (is_too_large s || (wrong_length s
+    is_no_list (raw_list.kind ∷ []) s || (is_too_large s || (wrong_length s
     || any (λ (e : Entry). loose_pair (cells_of s) e.0 e.1) (entries_all s)))

@@ -1,10 +1,13 @@
 // Inner, for the calls: checks the form of a list (refusals 2 to 6), a slip (7), a pairing (9) and a raw list (13); and
 // looks up pairs in a list.
+#![tactic(auto)]
+
 ghost use Rattle.std.specs.Prelude.{◌≡◌, ◌∷◌, [], ℕ, ◌≤◌, ◌<◌};
 ghost use Rattle.matching.specs.Lists.{any};
-ghost use Rattle.cellfile.specs.Files.{Layout, slip as slip_layout, pairing as pairing_layout, cells_of, count_of, steps_of};
+ghost use Rattle.cellfile.specs.Files.{Layout, slip as slip_layout, pairing as pairing_layout, cells_of, count_of};
+ghost use Rattle.cellfile.specs.Files.{steps_of};
 ghost use Rattle.cellfile.specs.Files.{read_entries, list_layout};
-ghost use Rattle.checks.specs.Refusals.{first, too_few_words, lists, list_rows, not_alist, is_too_large};
+ghost use Rattle.checks.specs.Refusals.{first, too_few_words, lists, list_rows, is_no_list, is_too_large};
 ghost use Rattle.checks.specs.Refusals.{misheaded, rules, is_no_rule, bad_slip, bad_pairing, loose_pair, is_bad_raw};
 ghost use Rattle.cellfile.specs.Words.{Plain};
 ghost use Rattle.cellfile.specs.Answers.{answer};
@@ -18,14 +21,14 @@ use buffers::map::WORDS;
 use cellfile::{decode, format};
 
 // A file's refusal, or its cells n and its count m.
-#[derive(Drop)]
+#[derive(Clone, Copy)]
 pub enum Checked {
     Refused(u32),
     Accepted { n: usize, m: usize },
 }
 
 // The answer of a call that writes files: a refusal's number, or the length of each file.
-#[derive(Drop)]
+#[derive(Clone, Copy)]
 pub enum Lengths {
     Refused(u32),
     One(usize),
@@ -38,7 +41,7 @@ const MOST_ENTRIES: usize = 4096;
 
 // Refusal 2, for lists of one kind.
 fn not_a_list(list: &[u8], kind: u64) -> bool
-    ensures { result ≡ not_alist (kind ∷ []) list.now }
+    ensures { result ≡ is_no_list (kind ∷ []) list.now }
 {
     if list.len() < 4 {
         return true;
@@ -281,7 +284,7 @@ pub fn check_pairing(pairing: &[u8], n: usize) -> Checked
 }
 
 // Whether a pair is an entry, the entry's points, and the place behind it.
-#[derive(Drop)]
+#[derive(Clone, Copy)]
 pub struct Match {
     pub there: bool,
     pub points: u64,

@@ -155,7 +155,8 @@ some_not list slip h = (
 -- of a call whose rows after those of the list are 7, 8 and others
 eight : (list slip : List ℕ) (more : ℕ → List Row) (values : List ℕ)
     → ((room : ℕ) → All (λ (r : Row). r.0 ≢ 8) (more room))
-    → Eight list slip (λ lent room. answer (first (call_rows (too_few_words lent) list ++ (slip_rows list slip ++ more room)))
+    → Eight list slip (λ lent room. answer (first
+    (call_rows (too_few_words lent) list ++ (slip_rows list slip ++ more room)))
     values)
 eight list slip more values p lent room = (
   (λ e. let s = just.0 e in (s.0, s.1, s.2.0, (some_not list slip s.1).0 s.3)),
@@ -228,7 +229,8 @@ refusals_tell = record {
       );
   eleven_pair = λ list lent room origin_room. (
       let just =
-      call_refused list lent [] (room_row ((room, pairing_file list) ∷ (origin_room, pairing_origins list) ∷ []) ∷ []) 11
+      call_refused list lent [] (room_row ((room, pairing_file list) ∷ (origin_room, pairing_origins list) ∷ []) ∷ [])
+      11
       (crowded (largest (cells_of list) (graph_after list (reduce_steps list))))
       (length (pairing_file list) ∷ length (pairing_origins list) ∷ []) (omega arith) tt ((λ e. omega arith), tt) in (
         (λ e. let s = just.0 e in (s.0, s.1, holds (pair_crowded list s.1) s.3)),

@@ -1,4 +1,4 @@
--- The hypotheses of demand 3 are met (`met`): by a well_formed list, by steps that are allowed and by pairings of the
+-- The hypotheses of demand 3 are met (`met`): by a well-formed list, by steps that are allowed and by pairings of the
 -- short list, each written. What replay, lift and reduce write (`replay_claim`, `lift_claim`, `reduce_claim`). Assumes
 -- nothing.
 use mathlib.Core.Path.{◌≡◌, sym, ap, subst, ◌∙◌}

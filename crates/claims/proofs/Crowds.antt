@@ -1,6 +1,6 @@
 -- Refusal 11 in words. In order: the largest group has more than k cells just where the group of some cell that has
--- pairs does (`crowd_just`), and so the row of a largest group tells it (`crowd_test`); the largest group of the short list
--- (`largest_left`), whose row tells `Crowded` (`crowded_test`). Assumes nothing.
+-- pairs does (`crowd_just`), and so the row of a largest group tells it (`crowd_test`); the largest group of the short
+-- list (`largest_left`), whose row tells `Crowded` (`crowded_test`). Assumes nothing.
 use mathlib.Core.Path.{◌≡◌, refl}
 use mathlib.Core.Logic.{◌↔◌}
 use mathlib.Core.Bool.{Bool, true}

@@ -93,6 +93,7 @@ module _ (list : List ℕ) (h : AcceptedList list) where
         origins =
             subst (λ (f : List ℕ). OriginClaim list (solve_file list slip) f (pairing_origins list) (reduce_steps list))
             (sym three_calls)
-            (subst (λ (o : List ℕ). OriginClaim list (solve_file list slip) (lift_file list slip (solve_file list slip)) o
+            (subst (λ (o : List ℕ). OriginClaim list (solve_file list slip)
+            (lift_file list slip (solve_file list slip)) o
             (reduce_steps list)) (sym same_from) lift.origins);
       }

@@ -2,7 +2,7 @@
 -- (`solve_crowded`); it is solved (`solve_read`); the claim. Assumes nothing.
 use mathlib.Core.Path.{◌≡◌, sym, ap, subst, ◌∙◌}
 use mathlib.Core.Bool.{not}
-use mathlib.Core.List.{List, [], ◌∷◌, ◌++◌}
+use mathlib.Core.List.{List, [], ◌∷◌}
 use Prim.Native.Nat.{ℕ, ◌≤◌}
 use native.Mathlib.Omega.{arith}
 use lib.ListN.{length}
@@ -76,7 +76,8 @@ module _ (list slip : List ℕ) (h : Allowed list slip) where
     writes = solve_writes;
     liftable = record {
       formed = ap (bad_pairing (cells_of list)) same_solve ∙ file_formed le (graph_after_is list slip h) it held;
-      pairs = subst (PairingOf (short_of (replay_short list slip))) (sym solve_read) (after_pairing list slip h it held);
+      pairs = subst (PairingOf (short_of (replay_short list slip))) (sym solve_read)
+          (after_pairing list slip h it held);
     };
     heaviest = subst (HeaviestOf (short_of (replay_short list slip))) (sym solve_read)
         (after_heaviest list slip h it

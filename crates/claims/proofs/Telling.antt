@@ -61,6 +61,18 @@ pub record Given : Type 0 where
   pub lifted : List ℕ
   pub origins : List ℕ
 
+abbrev pub given : (list slip pairing a b short lifted origins : List ℕ) → Given
+given list slip pairing a b short lifted origins = record {
+  list = list;
+  slip = slip;
+  pairing = pairing;
+  a = a;
+  b = b;
+  short = short;
+  lifted = lifted;
+  origins = origins;
+}
+
 module _ (g : Given) where
   abbrev words : List ℕ
   words = lent g.a g.b
@@ -253,7 +265,8 @@ module _ (g : Given) where
           (lent_again g.a g.b clear)
           ∙ sym (lift_next ∙ ap (onward (i ∷ [])) (lifts_here l))
 
-      pub weigh_refused : {z : Answer} {k : ℕ} {a''' b''' : List ℕ} → z ≡ (k, []) → WeighDid lifted' a'' b'' j z a''' b'''
+      pub weigh_refused : {z : Answer} {k : ℕ} {a''' b''' : List ℕ} → z ≡ (k, [])
+          → WeighDid lifted' a'' b'' j z a''' b'''
           → Promised (Refused k) short' lifted' origins' a''' b'''
       weigh_refused d v = (
         sym (ap (ended (i ∷ []) (j ∷ o ∷ [])) d) ∙ weighs_next v,
@@ -296,7 +309,8 @@ module _ (g : Given) where
                 from = origin_claim g.list g.slip h.0 g.pairing h.1;
               }
 
-      pub all_answered : {z : Answer} {p : ℕ} {a''' b''' : List ℕ} → z ≡ (0, p ∷ []) → WeighDid lifted' a'' b'' j z a''' b'''
+      pub all_answered : {z : Answer} {p : ℕ} {a''' b''' : List ℕ} → z ≡ (0, p ∷ [])
+          → WeighDid lifted' a'' b'' j z a''' b'''
           → Promised (Answered i j o p) short' lifted' origins' a''' b'''
       all_answered d v = (
         sym (ap (ended (i ∷ []) (j ∷ o ∷ [])) d) ∙ weighs_next v,

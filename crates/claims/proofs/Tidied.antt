@@ -16,7 +16,7 @@ use Rattle.matching.proofs.Alls.{all_map}
 use Rattle.cellfile.specs.Files.{raw_list, kind_of, cells_of, entries_all}
 use Rattle.cellfile.specs.Fits.{AreBytes}
 use Rattle.cellfile.proofs.Lists.{view_all}
-use Rattle.checks.specs.Refusals.{too_few_words, lists, not_alist, short_output, is_bad_raw}
+use Rattle.checks.specs.Refusals.{too_few_words, lists, is_no_list, short_output, is_bad_raw}
 use Rattle.checks.specs.Calls.{room_row}
 use Rattle.checks.proofs.Rows.{bad_raw_none}
 use Rattle.checks.proofs.Layers.{rows_pass, rows_sound, row_refused}
@@ -49,12 +49,14 @@ module _ (raw lent : List ℕ) (room : ℕ) where
   tidy_tells = record {
     zero = λ i e. (
         let a =
-        rows_sound (with_room (tidy_rows (too_few_words lent) raw) room file) (i ∷ []) (length file ∷ []) (omega arith) e in
+        rows_sound (with_room (tidy_rows (too_few_words lent) raw) room file) (i ∷ []) (length file ∷ [])
+        (omega arith) e in
         (a.0.1.0, wrote a.0.0 a.0.1.1.0 a.1)
         );
     thirteen = (
         let just =
-        row_refused ((1, too_few_words lent) ∷ []) (room_row ((room, file) ∷ []) ∷ []) 13 (is_bad_raw raw) (length file ∷ [])
+        row_refused ((1, too_few_words lent) ∷ []) (room_row ((room, file) ∷ []) ∷ []) 13 (is_bad_raw raw)
+        (length file ∷ [])
         (omega arith) ((λ e. omega arith), tt) ((λ e. omega arith), tt) in
         ((λ e. let s = just.0 e in (s.0.0, s.1)), λ s. just.1 ((s.0, tt), s.1))
         );
@@ -111,8 +113,8 @@ again_claim list a h =
 
 -- ---- the other calls
 
-raw_two : (raw : List ℕ) → kind_of raw ≡ raw_list.kind → not_alist lists raw ≡ true
-unfolding not_alist
+raw_two : (raw : List ℕ) → kind_of raw ≡ raw_list.kind → is_no_list lists raw ≡ true
+unfolding is_no_list
 raw_two raw k = rw k (or-true (ltb (length raw) 4))
 
 pub elsewhere : (raw lent : List ℕ) → kind_of raw ≡ raw_list.kind → too_few_words lent ≡ false → Elsewhere raw lent

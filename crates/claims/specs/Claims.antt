@@ -1,5 +1,5 @@
 -- What the calls say together, of the files that they read and write, beside demand 3. In order: what the answers 0, 8,
--- 10 and 11 tell; the hypotheses of demand 3 are met, by every well_formed list, every sequence of steps that are
+-- 10 and 11 tell; the hypotheses of demand 3 are met, by every well-formed list, every sequence of steps that are
 -- allowed and every pairing of the short list; the files of replay and lift, by the published rules and the ties;
 -- reduce; solve; pair. Laws: proofs/Answers (`zero_tells`, `refusals_tell`), proofs/Claims (`met`, `replay_claim`,
 -- `lift_claim`, `reduce_claim`), proofs/Solved (`solve_claim`), proofs/Paired (`pair_claim`).
@@ -124,7 +124,7 @@ pub record PairingClaim (list slip : List ℕ) (m : List Pair) : Type 0 where
       (lift_file list slip (pair_file (cells_of list) m)) (lift_origins list slip (pair_file (cells_of list) m))
   pub longest : length (pair_file (cells_of list) m) ≤ 1540
 
--- Such a file is there for every list that is well_formed, every sequence of steps that are allowed, each where it
+-- Such a file is there for every list that is well-formed, every sequence of steps that are allowed, each where it
 -- stands, and every pairing of the short list. So no hypothesis is empty: no step at all, and the empty pairing, always
 -- serve.
 pub record Met : Type 0 where

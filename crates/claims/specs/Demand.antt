@@ -10,7 +10,8 @@ use Rattle.matching.specs.Pairing.{Pairing, Heaviest}
 use Rattle.matching.specs.Listed.{Entry, joined, listed, points}
 use Rattle.matching.specs.Steps.{Step}
 use Rattle.matching.specs.Slip.{AreSteps}
-use Rattle.cellfile.specs.Files.{short_list as short_layout, cells_of, entries_of, steps_of, pairs_of, carried_of, in_view}
+use Rattle.cellfile.specs.Files.{short_list as short_layout, cells_of, entries_of, steps_of, pairs_of, carried_of}
+use Rattle.cellfile.specs.Files.{in_view}
 use Rattle.cellfile.specs.Files.{as_name}
 use Rattle.checks.specs.Refusals.{first, too_few_words, lists, list_rows, rules, bad_slip, bad_pairing}
 use Rattle.cellfile.specs.Answers.{Answer}

@@ -49,7 +49,8 @@ pub record TidyClaim (raw : List ℕ) : Type 0 where
   pub writes : Writes (tidying raw) (tidy_file raw)
   pub accepted : AcceptedList (tidy_file raw)
   pub cells : cells_of (tidy_file raw) ≡ cells_of raw
-  pub last : (a b : ℕ) → joining a b (store_of (tidy_file raw)) ≡ map low_first (last_of (joining a b (entries_all raw)))
+  pub last : (a b : ℕ) → joining a b (store_of (tidy_file raw)) ≡ map low_first
+      (last_of (joining a b (entries_all raw)))
   pub longest : length (tidy_file raw) ≤ length raw
 
 -- 'A store list whose kind is changed to 6 comes back as itself', byte for byte.

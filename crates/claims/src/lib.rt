@@ -1,6 +1,8 @@
 // What the calls promise together, of the files that they read and write: specs/Demand and specs/Claims, with the laws
 // in proofs/. One function, private and for no caller but the reader: replay, lift and weigh on one list, slip and
 // pairing, and demand 3 of what they themselves answer and write (specs/Asking).
+#![tactic(auto)]
+
 ghost use Rattle.std.specs.Prelude.{◌≡◌, length};
 ghost use Rattle.buffers.specs.Buffers.{lent, Cleared};
 ghost use Rattle.cellfile.specs.Answers.{written};
@@ -13,7 +15,7 @@ use weighing::Weighed;
 
 // The refusal of the first call that refuses, or the lengths that replay and lift answer and the points that weigh
 // does.
-#[derive(Drop)]
+#[derive(Clone, Copy)]
 pub enum Asked {
     Refused(u32),
     Answered {

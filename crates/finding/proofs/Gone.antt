@@ -15,7 +15,7 @@ use Rattle.matching.specs.Best.{walk}
 use Rattle.matching.specs.Shapes.{first}
 use Rattle.matching.proofs.Tests.{Test, pass, fail, lt_test, fails}
 use Rattle.matching.proofs.Members.{mem_on, mem_head, clash, Meets, Away, meets_test}
-use Rattle.matching.proofs.Pairs.{Same, same_t}
+use Rattle.matching.proofs.Pairs.{Same, same_test}
 use Rattle.matching.proofs.Sums.{like_turned, like_self, turned_same, In, in_cases, in_turned, no_in}
 use Rattle.matching.proofs.Put.{put_else}
 use Rattle.matching.proofs.Rows.{Run, run_closed}
@@ -25,7 +25,7 @@ use Rattle.slots.proofs.Degrees.{degree_same}
 -- ---- one pair
 
 pub put_away : (x y k : ℕ) (w : Points) (c : ℕ) → c ≢ x → c ≢ y → (z : ℕ) → put x y k w c z ≡ w c z
-put_away x y k w c nx ny z = put_else x y k w c z (fails (same_t x y c z) off)
+put_away x y k w c nx ny z = put_else x y k w c z (fails (same_test x y c z) off)
   where
     off : Same x y c z → ⊥
     off (inl q) = nx q.0
@@ -89,7 +89,7 @@ gone_out : (es : List Pair) (w : Points) (a b : ℕ) → (In es a b → ⊥) →
 gone_out [] w a b n = refl
 gone_out (e ∷ es) w a b n =
     gone_out es (put e.0 e.1 0 w) a b (λ h. n (omega arith))
-    ∙ put_else e.0 e.1 0 w a b (fails (same_t e.0 e.1 a b) (λ s. n (omega (arith, here s))))
+    ∙ put_else e.0 e.1 0 w a b (fails (same_test e.0 e.1 a b) (λ s. n (omega (arith, here s))))
   where
     here : Same e.0 e.1 a b → like e.0 e.1 a b ≡ 1
     here s =

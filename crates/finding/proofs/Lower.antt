@@ -3,7 +3,7 @@
 -- cell of degree two on it (`Lower`) and what it rules out (`lower_chain`, `lower_two`, `lower_other`); a row whose two
 -- ways meet (`Passed`) and what that rules out (`met_chain`, `met_lowest`); the loop that walks both ways in turns
 -- (`WayAt`, `Turns`). Assumes nothing.
-use mathlib.Core.Path.{◌≡◌, refl, sym, ap, ◌∙◌}
+use mathlib.Core.Path.{◌≡◌, refl, sym, ap, ◌∙◌, subst}
 use mathlib.Core.Logic.{◌⊎◌, inl, inr, ◌≢◌, ⊎_map}
 use mathlib.Core.Bool.{Bool, true, false}
 use mathlib.Core.List.{List, [], ◌∷◌}
@@ -46,6 +46,12 @@ abbrev pub OnAll : Points → Rule → ℕ → ℕ → Type 0
 OnAll w r z x = (s : Step) → IsStep 1024 w r z s → On s x
 
 named_on : (w : Points) (r : Rule) (z : ℕ) → OnAll w r z z
+named_on w by_leaf z (ring u y inner) p = elim p [ ]
+named_on w by_leaf z (chain u v y inner) p = elim p [ ]
+named_on w by_ring z (leaf u v) p = elim p [ ]
+named_on w by_ring z (chain u v y inner) p = elim p [ ]
+named_on w by_chain z (leaf u v) p = elim p [ ]
+named_on w by_chain z (ring u y inner) p = elim p [ ]
 named_on w by_leaf z (leaf u v) p = inr p.0
 named_on w by_ring z (ring u y inner) p = inl (rw (← p.0) p.1.low.here)
 named_on w by_chain z (chain u v y inner) p = inl (rw (← p.0) p.1.low.here)
@@ -88,6 +94,10 @@ module _ {w : Points} (g : Graph 1024 w) where
 
   partner_on : (r : Rule) (z x y : ℕ) → r ≢ by_leaf → OnAll w r z x → degree 1024 w x ≡ 2 → 0 < w x y
       → OnAll w r z y
+  partner_on by_ring z x y d on two h (leaf u v) p = elim p [ ]
+  partner_on by_ring z x y d on two h (chain u v c inner) p = elim p [ ]
+  partner_on by_chain z x y d on two h (leaf u v) p = elim p [ ]
+  partner_on by_chain z x y d on two h (ring u c inner) p = elim p [ ]
   partner_on by_leaf z x y d on two h s p = absurd (d refl)
   partner_on by_ring z x y d on two h (ring u c inner) p = go (on (ring u c inner) p)
     where
@@ -115,6 +125,8 @@ pub record Lower (w : Points) (r : Rule) (z x : ℕ) : Type 0 where
 
 -- on a chain it is an inner cell
 chain_lower : {w : Points} {z x : ℕ} → Lower w by_chain z x → Unnamed w by_chain z
+chain_lower {w = w} {z = z} {x = x} l (leaf u v) p = elim p [ ]
+chain_lower {w = w} {z = z} {x = x} l (ring u _ inner) p = elim p [ ]
 chain_lower {w} {z} {x} l (chain u v c inner) p = go (l.on (chain u v c inner) p)
   where
     go : OnRow u inner v x → ⊥
@@ -137,6 +149,8 @@ lower_chain e l = rw e (chain_lower (rw e at l))
 
 pub lower_two : {w : Points} (r : Rule) {z x y : ℕ} → r ≢ by_leaf → Lower w r z x → Lower w r z y → x ≢ y
     → Unnamed w r z
+lower_two {w = w} by_ring {z = z} {y = y} d l k n (leaf u v) p = elim p [ ]
+lower_two {w = w} by_ring {z = z} {y = y} d l k n (chain u v _ inner) p = elim p [ ]
 lower_two by_leaf d l k n s p = d refl
 lower_two by_ring d l k n (ring u c inner) p = n (sym (ring_lower l u c inner p) ∙ ring_lower k u c inner p)
 lower_two by_chain d l k n s p = chain_lower l s p
@@ -144,6 +158,8 @@ lower_two by_chain d l k n s p = chain_lower l s p
 -- a ring's cell of another degree is u too
 pub lower_other : {w : Points} (r : Rule) {z x : ℕ} (y : ℕ) → r ≢ by_leaf → Lower w r z x → OnAll w r z y
     → degree 1024 w y ≢ 2 → Unnamed w r z
+lower_other {w = w} by_ring {z = z} {x = x} y d l on n (leaf u v) p = elim p [ ]
+lower_other {w = w} by_ring {z = z} {x = x} y d l on n (chain u v _ inner) p = elim p [ ]
 lower_other by_leaf y d l on n s p = d refl
 lower_other {w} by_ring {z} {x} y d l on n (ring u c inner) p = go (on (ring u c inner) p)
   where
@@ -194,6 +210,8 @@ module _ {w : Points} (g : Graph 1024 w) {z last at next_last next_at seen : ℕ
       go y (inr (inr e)) = rw (← e, b) p.here
 
   met_no_chain : at ≡ next_last → next_at ≡ last → Unnamed w by_chain z
+  met_no_chain a b (leaf u v) s = elim s [ ]
+  met_no_chain a b (ring u _ inner) s = elim s [ ]
   met_no_chain a b (chain u v c inner) s =
       s.1.first_end (p.two u (met_end a b s.1.row s.1.low s.0))
 
@@ -202,6 +220,8 @@ module _ {w : Points} (g : Graph 1024 w) {z last at next_last next_at seen : ℕ
 
   -- z is the lowest of the ring
   pub met_lowest : (r : Rule) → r ≢ by_leaf → at ≡ next_last → next_at ≡ last → seen ≡ z → Unnamed w r z
+  met_lowest by_ring d a b q (leaf u v) s = elim s [ ]
+  met_lowest by_ring d a b q (chain u v _ inner) s = elim s [ ]
   met_lowest by_leaf d a b q s y = d refl
   met_lowest by_ring d a b q (ring u c inner) s = go s.1.at
     where
@@ -311,7 +331,7 @@ module _ {e : ℕ} {w1 w2 : List ℕ} {r : Rule} (h : Holds e w1 w2) (d : r ≢ 
       onward : {x : ℕ} (y : ℕ) → (at ≡ x) ⊎ (mem x t.past ≡ true) → 0 < w x y
           → (mem y (at ∷ t.past) ≡ true) ⊎ ((next_at ≡ y) ⊎ (s.partner ≡ y))
       onward y (inl q) l =
-          ⊎_map (λ i. rw (← i) (mem_on last at t.past p.here)) inr
+          ⊎_map (λ i. subst (λ x. mem x (at ∷ t.past) ≡ true) i (mem_on last at t.past p.here)) inr
           (next_only two (joins_turned t.here.joins) n y (rw q l))
       onward {x} y (inr m) l = beyond (p.onward x y m l)
         where

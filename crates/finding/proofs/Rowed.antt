@@ -12,7 +12,7 @@ use Rattle.matching.proofs.Tests.{Test, pass, fail, eq_test}
 use Rattle.matching.specs.Pairs.{Points}
 use Rattle.matching.specs.Graph.{Graph, degree}
 use Rattle.matching.specs.Steps.{Rule, by_leaf, by_ring, by_chain, ring, chain}
-use Rattle.matching.specs.Shapes.{first, last}
+use Rattle.matching.specs.Shapes.{last}
 use Rattle.slots.specs.Slots.{Holds, graph_of, Joins}
 use Rattle.slots.proofs.Graphs.{holds_graph}
 use Rattle.slots.proofs.Holding.{joins_pair}
@@ -94,7 +94,8 @@ module _ {e : ℕ} {w1 w2 : List ℕ} (h : Holds e w1 w2) {z f i : ℕ} (j : Joi
     pub ring_by : RingTest w z a.end a.last b.last b.end
         → FindsBy e w1 by_ring z f (record { step = Ring a.end z; first = a.last; slot = a.slot })
     ring_by t =
-        let u : RingTest w z (end_of w z f) (nearest_end w z f) (last (end_of w z f) (back_of w z f).0) (back_of w z f).1 =
+        let u : RingTest w z (end_of w z f) (nearest_end w z f) (last (end_of w z f) (back_of w z f).0)
+        (back_of w z f).1 =
         rw (sb.last, sb.end, sa.end, sa.last) at t in
         record {
           found = some (ring (end_of w z f) z (back_of w z f).0);
@@ -111,7 +112,8 @@ module _ {e : ℕ} {w1 w2 : List ℕ} (h : Holds e w1 w2) {z f i : ℕ} (j : Joi
     pub chain_by : ChainTest w a.end a.last b.last b.end
         → FindsBy e w1 by_chain z f (record { step = Chain a.end b.end z; first = a.last; slot = a.slot })
     chain_by t =
-        let u : ChainTest w (end_of w z f) (nearest_end w z f) (last (end_of w z f) (back_of w z f).0) (back_of w z f).1 =
+        let u : ChainTest w (end_of w z f) (nearest_end w z f) (last (end_of w z f) (back_of w z f).0)
+        (back_of w z f).1 =
         rw (sb.last, sb.end, sa.end, sa.last) at t in
         record {
           found = some (chain (end_of w z f) (back_of w z f).1 z (back_of w z f).0);

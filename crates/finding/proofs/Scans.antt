@@ -3,15 +3,13 @@
 -- `unmet_end`); the cells (`Barren`, `scan_none`, `scan_some`); a scan that leaves out cells below a bound
 -- (`from_bound`, `from_low`); the first step of all rules (`first_leaf`, `first_ring`, `first_chain`).
 use mathlib.Core.Path.{◌≡◌, refl, sym, ap, ap₂, subst, ◌∙◌, fun_ext}
-use mathlib.Core.Logic.{inl, inr, ◌≢◌, ⊎_elim}
+use mathlib.Core.Logic.{inl, inr, ◌≢◌}
 use mathlib.Core.Bool.{Bool}
-use mathlib.Core.List.{List, [], ◌∷◌}
+use mathlib.Core.List.{List, []}
 use mathlib.Core.Option.{Option, some, none}
 use Prim.Native.Nat.{ℕ, suc, ◌+◌, ◌-◌, ◌≤◌, ◌<◌}
 use native.Mathlib.Omega.{arith}
 use lib.ListN.{get_or}
-use types.Run.{OneOf}
-use denote.Enum.Declared.{tag_of}
 use Rattle.matching.specs.Graph.{Graph, degree}
 use Rattle.matching.specs.Steps.{Rule, by_leaf, by_ring, by_chain, Step, leaf, ring, chain}
 use Rattle.matching.specs.Shapes.{IsStep}
@@ -34,7 +32,6 @@ use Rattle.finding.specs.Finding.{FindsAt, Unmet, Quiet}
 use Rattle.finding.specs.declared.Found.{Found}
 use Rattle.finding.specs.declared.Step as declared
 use Rattle.finding.specs.declared.Step.TheVariants as found
-use Rattle.finding.specs.contracts.Step as step
 use Rattle.finding.proofs.Ways.{step_met}
 
 -- ---- what the enum tells
@@ -49,11 +46,10 @@ tell_none (some (ring u z inner)) e = absurd (omega (arith, ap (λ (x : Answer).
 tell_none (some (chain u v z inner)) e = absurd (omega (arith, ap (λ (x : Answer). x.0) e))
 
 -- one of the first three cases is a step
-pub told_some : (s : declared.Step) → OneOf (0 ∷ 1 ∷ 2 ∷ []) (tag_of step.the_type s) → (o : Option Step)
+pub told_some : (s : declared.Step) → s ≢ found.None → (o : Option Step)
     → told s ≡ to_tell o → (t : Step) × (o ≡ some t)
 told_some s k (some t) e = (t, refl)
-told_some found.None k none e =
-    absurd (⊎_elim (λ q. omega arith) (λ j. ⊎_elim (λ q. omega arith) (λ q. omega arith) j) k)
+told_some found.None k none e = absurd (k refl)
 told_some (found.Leaf v u) k none e = absurd (omega (arith, ap (λ (x : Answer). x.0) e))
 told_some (found.Ring u z) k none e = absurd (omega (arith, ap (λ (x : Answer). x.0) e))
 told_some (found.Chain u v z) k none e = absurd (omega (arith, ap (λ (x : Answer). x.0) e))
@@ -104,6 +100,12 @@ module _ {e : ℕ} {w1 w2 : List ℕ} (h : Holds e w1 w2) where
 
   step_degree : (r : Rule) (c : ℕ) (s : Step) → IsStep 1024 (graph_of e w1) r c s
       → degree 1024 (graph_of e w1) c ≡ named_degree r
+  step_degree by_leaf c (ring u z inner) p = elim p [ ]
+  step_degree by_leaf c (chain u v z inner) p = elim p [ ]
+  step_degree by_ring c (leaf u v) p = elim p [ ]
+  step_degree by_ring c (chain u v z inner) p = elim p [ ]
+  step_degree by_chain c (leaf u v) p = elim p [ ]
+  step_degree by_chain c (ring u z inner) p = elim p [ ]
   step_degree by_leaf c (leaf u v) p = rw (← p.0) p.1.one
   step_degree by_ring c (ring u z inner) p = rw (← p.0) (p.1.row.two z p.1.low.here)
   step_degree by_chain c (chain u v z inner) p = rw (← p.0) (p.1.row.two z p.1.low.here)
@@ -183,7 +185,7 @@ module _ {e : ℕ} {w1 w2 : List ℕ} (h : Holds e w1 w2) {r : Rule} {from c : �
       (record { step = q; way = tt })
 
   pub scan_some : {to : ℕ} {x : Found} {i : ℕ} → c < to → FindsAt e w1 r c i x
-      → OneOf (0 ∷ 1 ∷ 2 ∷ []) (tag_of step.the_type x.step) → Finds e w1 (step_from (graph_of e w1) r from to) x
+      → x.step ≢ found.None → Finds e w1 (step_from (graph_of e w1) r from to) x
   scan_some {to} {x} {i} l at k = go at.found at.is at.finds
     where
       go : (o : Option Step) → StepAtSlot e w1 r c i o → Finds e w1 o x
@@ -250,7 +252,7 @@ in_order e w1 n g le =
     ∙ rw (from_zero e w1 by_leaf n, from_zero e w1 by_ring n, from_zero e w1 by_chain n)
 
 first_of : {e : ℕ} {w1 : List ℕ} {o : Option Step} (p : Option Step) {x : Found} → Finds e w1 o x
-    → OneOf (0 ∷ 1 ∷ 2 ∷ []) (tag_of step.the_type x.step) → Finds e w1 (or_else o p) x
+    → x.step ≢ found.None → Finds e w1 (or_else o p) x
 first_of {e} {w1} {o} p {x} f k =
     let t = told_some x.step k o f.step in
     subst (λ (y : Option Step). Finds e w1 y x) (t.1 ∙ ap (λ (y : Option Step). or_else y p) (sym t.1)) f
@@ -260,7 +262,7 @@ skipped {o = o} f q = tell_none o (sym f.step ∙ told_none q)
 
 module _ (e : ℕ) (w1 : List ℕ) (n : ℕ) (g : Graph n (graph_of e w1)) (le : n ≤ 1024) {x : Found}
     (a : Finds e w1 (step_from (graph_of e w1) by_leaf 0 n) x) where
-  pub first_leaf : OneOf (0 ∷ 1 ∷ 2 ∷ []) (tag_of step.the_type x.step) → Finds e w1 (first_step_of n (graph_of e w1)) x
+  pub first_leaf : x.step ≢ found.None → Finds e w1 (first_step_of n (graph_of e w1)) x
   first_leaf k = subst (λ (o : Option Step). Finds e w1 o x) (sym (in_order e w1 n g le)) (first_of _ a k)
 
   module _ (no_leaf : x.step ≡ found.None) {y : Found}
@@ -272,9 +274,10 @@ module _ (e : ℕ) (w1 : List ℕ) (n : ℕ) (g : Graph n (graph_of e w1)) (le :
         ≡ or_else (step_from (graph_of e w1) by_ring 0 n) (step_from (graph_of e w1) by_chain 0 n)
     rest =
         in_order e w1 n g le
-        ∙ ap (λ (o : Option Step). or_else o (or_else (step_from (graph_of e w1) by_ring 0 n) chains)) (skipped a no_leaf)
+        ∙ ap (λ (o : Option Step). or_else o (or_else (step_from (graph_of e w1) by_ring 0 n) chains))
+        (skipped a no_leaf)
 
-    pub first_ring : OneOf (0 ∷ 1 ∷ 2 ∷ []) (tag_of step.the_type y.step)
+    pub first_ring : y.step ≢ found.None
         → Finds e w1 (first_step_of n (graph_of e w1)) y
     first_ring k = subst (λ (o : Option Step). Finds e w1 o y) (sym rest) (first_of _ b k)
 

@@ -1,7 +1,7 @@
 -- The step at a cell by the walks from it. In order: a step at c is met at one of its partners (`step_met`); what the
 -- walks show is a ring or a chain (`ring_shown`, `chain_shown`); where they do not show it none is met (`ring_none`,
 -- `chain_none`).
-use mathlib.Core.Path.{◌≡◌, refl, sym, ap, ap₂, ◌∙◌}
+use mathlib.Core.Path.{◌≡◌, refl, sym, ap, ap₂, ◌∙◌, subst}
 use mathlib.Core.Logic.{◌⊎◌, inl, inr, ◌≢◌, ⊎_map}
 use mathlib.Core.Bool.{Bool, true, false, not}
 use mathlib.Core.List.{List, [], ◌∷◌}
@@ -70,6 +70,12 @@ module _ {w : Points} (g : Graph 1024 w) where
       out = run_stretch g (suc z) 1024 z b.passed u b.run above bu few
 
   pub step_met : (r : Rule) (c : ℕ) (s : Step) → IsStep 1024 w r c s → (f : ℕ) × (0 < w c f) × MetBy w f s
+  step_met by_leaf c (ring u z inner) p = elim p [ ]
+  step_met by_leaf c (chain u v z inner) p = elim p [ ]
+  step_met by_ring c (leaf u v) p = elim p [ ]
+  step_met by_ring c (chain u v z inner) p = elim p [ ]
+  step_met by_chain c (leaf u v) p = elim p [ ]
+  step_met by_chain c (ring u z inner) p = elim p [ ]
   step_met by_leaf c (leaf u v) p = (u, rw (← p.0) p.1.pair, refl)
   step_met by_ring c (ring u z inner) p =
       rw (← p.0) (row_met p.1.row p.1.low (⊎_map (λ l. omega arith) (λ d. d) (turned p.1.at))
@@ -191,6 +197,8 @@ pub ring_none : (w : Points) (z f : ℕ)
     → (end_of w z f ≢ z
     → RingTest w z (end_of w z f) (nearest_end w z f) (last (end_of w z f) (back_of w z f).0) (back_of w z f).1 → ⊥)
     → StepBy w by_ring z f none
+ring_none w z f miss (leaf _ v) p m = elim p [ ]
+ring_none w z f miss (chain _ v _ inner) p m = elim p [ ]
 ring_none w z f miss (ring u z' inner) p m = go u inner (rw p.0 at p.1) (rw p.0 at m)
   where
     go : (u : ℕ) (inner : List ℕ) → IsRing 1024 w u z inner → Met w z f u inner u → ⊥
@@ -215,6 +223,8 @@ pub chain_none : (w : Points) (z f : ℕ)
     → (end_of w z f ≢ z
     → ChainTest w (end_of w z f) (nearest_end w z f) (last (end_of w z f) (back_of w z f).0) (back_of w z f).1 → ⊥)
     → StepBy w by_chain z f none
+chain_none w z f miss (leaf _ v) p m = elim p [ ]
+chain_none w z f miss (ring _ _ inner) p m = elim p [ ]
 chain_none w z f miss (chain u v z' inner) p m = go u v inner (rw p.0 at p.1) (rw p.0 at m)
   where
     go : (u v : ℕ) (inner : List ℕ) → IsChain 1024 w u v z inner → Met w z f u inner v → ⊥
@@ -232,7 +242,8 @@ chain_none w z f miss (chain u v z' inner) p m = go u v inner (rw p.0 at p.1) (r
         ends_apart [] d l q = absurd (omega arith)
         ends_apart (c ∷ []) d l q = absurd (omega arith)
         ends_apart (c ∷ b ∷ cs) d l q =
-            mem_apart c c (b ∷ cs) (rw q (last_in b cs)) (distinct_cons c (b ∷ cs) d).0 refl
+            mem_apart c c (b ∷ cs) (subst (λ x. mem x (b ∷ cs) ≡ true) (sym q) (last_in b cs))
+            (distinct_cons c (b ∷ cs) d).0 refl
 
 -- ---- the tests in the code
 

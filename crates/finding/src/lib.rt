@@ -1,4 +1,6 @@
 // Inner, for the reduction: finds a step on the working graph. See specs/Walks and specs/Finding.
+#![tactic(auto)]
+
 ghost use Rattle.std.specs.Prelude.{◌≡◌, ◌⊎◌, ◌≢◌, true, [], ◌+◌, ◌<◌, ◌≤◌};
 ghost use Rattle.matching.specs.Pairs.{touches};
 ghost use Rattle.matching.specs.Graph.{Graph, degree};
@@ -13,7 +15,7 @@ use cellfile::format::{CHAIN, LEAF, RING};
 use slots::read;
 
 // The end of a walk, the cell before it, and the slot of the two.
-#[derive(Drop)]
+#[derive(Clone, Copy)]
 pub struct Stop {
     pub end: usize,
     pub last: usize,
@@ -46,7 +48,7 @@ fn walk(w1: &[u64], w2: &[u64], e: usize, from: usize, at: usize, i: usize, low:
 }
 
 // A step with the cells that it stands on, or none.
-#[derive(Drop)]
+#[derive(Clone, Copy)]
 pub enum Step {
     Leaf { v: usize, u: usize },
     Ring { u: usize, z: usize },
@@ -55,7 +57,7 @@ pub enum Step {
 }
 
 // A step with the pair by which it is taken: of a leaf its only pair, else that of u with the first inner cell.
-#[derive(Drop)]
+#[derive(Clone, Copy)]
 pub struct Found {
     pub step: Step,
     pub first: usize,

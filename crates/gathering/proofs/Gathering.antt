@@ -79,7 +79,8 @@ module _ {n : ℕ} {w : Points} {r a i : ℕ} {w1 w2 w2' : List ℕ} (h : Starts
       at b m (pass q) =
           rw q (get_or-set_same w2' (at_starts + a) i 0 (omega (arith, h.room2, h.cells, g.only.long)) ∙ g.at)
       at b m (fail d) =
-          get_or-set_other w2' (at_starts + a) (at_starts + b) i 0 (λ q. d (omega arith)) ∙ g.starts b (omega (arith, d))
+          get_or-set_other w2' (at_starts + a) (at_starts + b) i 0 (λ q. d (omega arith))
+          ∙ g.starts b (omega (arith, d))
 
 pub starts_all : {n : ℕ} {w : Points} {a i : ℕ} {w2 w2' : List ℕ} → StartsTo n w a i w2 w2' → n ≤ a
     → StartsIn n w w2 w2'
@@ -140,7 +141,8 @@ walk_none {cs} {d} {w2} h = record {
 
 module _ {cs : List ℕ} {d : ℕ} {w2 w2' : List ℕ} {k p : ℕ} (h : LinksThere cs d w2) (g : Walked cs w2 w2' k p) where
   module _ (n : p ≢ 0) where
-    next : (k < length cs) × (p ≡ suc (get_or cs k 0)) × Leads (link_in w2) (link_in w2 (get_or cs k 0)) (drop (suc k) cs)
+    next : (k < length cs) × (p ≡ suc (get_or cs k 0))
+        × Leads (link_in w2) (link_in w2 (get_or cs k 0)) (drop (suc k) cs)
     next = leads_next (link_in w2) p cs k n g.leads
 
     pub walk_low : p ≤ 1024
@@ -290,7 +292,8 @@ module _ {w : Points} {cs : List ℕ} {k : ℕ} {w1 w2 : List ℕ} (p : PlacesTh
       row_cell = g.row.only.same (at_places + j) (inr (omega (arith, p.few))) ∙ p.places j b
 
       -- the points found are the graph's
-      found : points_between w1 e (get_or w2 (at_starts + cell_in w2 i + 1) 0) (cell_in w2' j) ≡ w (get_or cs i 0) (get_or cs j 0)
+      found : points_between w1 e (get_or w2 (at_starts + cell_in w2 i + 1) 0) (cell_in w2' j)
+          ≡ w (get_or cs i 0) (get_or cs j 0)
       found = rw (row_cell, end, g.met b) (go (lt_test 0 (w a c)))
         where
           a : ℕ

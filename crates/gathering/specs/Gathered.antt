@@ -1,9 +1,9 @@
 -- The cells of a group and the points between them, gathered for crate sets. Only inner contracts cite this (laws:
 -- proofs/Runs and proofs/Gathering).
 --
--- Second buffer: from `at_starts` on for each cell where the run of its rows starts; from `at_points` on the points from
--- place i to a higher place j at 12 × i + j; from `at_places` on the cells at their places; from `at_labels` on the
--- links.
+-- Second buffer: from `at_starts` on for each cell where the run of its rows starts; from `at_points` on the points
+-- from place i to a higher place j at 12 × i + j; from `at_places` on the cells at their places; from `at_labels` on
+-- the links.
 use Rattle.std.specs.Prelude.{◌≡◌, ◌⊎◌, ◌≢◌, cond, List, ℕ, suc, ◌+◌, ◌*◌, ◌/◌, ◌%◌, ◌≤◌, ◌<◌, eqb, ltb, length, get_or}
 use Rattle.buffers.specs.Map.{unit, at_cells, at_starts, at_points, at_places}
 use Rattle.matching.specs.Lists.{All, mem, Ascends}

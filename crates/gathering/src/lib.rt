@@ -1,4 +1,6 @@
 // Inner, for solving: the cells of a group and the points between them, gathered for crate sets. See specs/Gathered.
+#![tactic(auto)]
+
 ghost use Rattle.std.specs.Prelude.{◌≡◌, List, ℕ, ◌+◌, ◌≤◌, ◌<◌, length};
 ghost use Rattle.matching.specs.Pairs.{Points};
 ghost use Rattle.gathering.specs.Gathered.{points_between, RunEnd, StartsThere, StartsIn, Blank, LinksThere, Gathers};

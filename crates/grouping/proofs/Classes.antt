@@ -93,7 +93,8 @@ module _ {n : ℕ} {w : Points} (g : Graph n w) (k : ℕ) (l : Labels) (h : Labe
       go (d, q, m) = omega (arith, h.low b d low.1 (rw (all, ← e) m))
 
   pub labels_split : (a b : ℕ) → 0 < w a b → l a ≢ l b → suc k < largest n w
-  labels_split a b p d = holds (lt_test (suc k) (largest n w)) (passes (lt_test (suc k) (largest n w)) (λ few. d (same few)))
+  labels_split a b p d =
+      holds (lt_test (suc k) (largest n w)) (passes (lt_test (suc k) (largest n w)) (λ few. d (same few)))
     where
       turned : 0 < w b a
       turned = omega (arith, g.turned a b)
@@ -156,7 +157,8 @@ module _ {n : ℕ} {w : Points} (g : Graph n w) (k : ℕ) (l : Labels) (h : Labe
 
     group_level : (c x : ℕ) → mem x (group n w c) ≡ true → l x ≡ l c
     group_level c x m =
-        holds (eq_test (l x) (l c)) (group_least n w c (λ y. eqb (l y) (l c)) (closed (l c)) (eq-eqb (l c) (l c) refl) x m)
+        holds (eq_test (l x) (l c))
+        (group_least n w c (λ y. eqb (l y) (l c)) (closed (l c)) (eq-eqb (l c) (l c) refl) x m)
 
     -- the classes are the groups
     pub class_group : (c d : ℕ) → mem c (class n l d) ≡ true → class n l d ≡ group n w c

@@ -87,7 +87,8 @@ module _ {n : ℕ} {w : Points} {k : ℕ} {w2 w2' : List ℕ} (s : Labelling n w
           → words_in (set w2' (at_labels + k) v) c ≡ own n w c
       go c l (pass q) = rw q (get_or-set_same w2' (at_labels + k) v 0 room ∙ e)
       go c l (fail d) =
-          get_or-set_other w2' (at_labels + k) (at_labels + c) v 0 (λ q. d (omega arith)) ∙ s.labels c (omega (arith, d))
+          get_or-set_other w2' (at_labels + k) (at_labels + c) v 0 (λ q. d (omega arith))
+          ∙ s.labels c (omega (arith, d))
 
   pub labels_all : n ≤ k → OwnIn n w w2 w2'
   labels_all l = record { labels = λ c b. s.labels c (omega arith); front = s.front }

@@ -191,7 +191,8 @@ module _ {n : ℕ} {l : Labels} {c : ℕ} {w2 : List ℕ} (h : LinkThere n l (su
       unfolding next
       put_there x m q f =
           rw (from_same n l c x (λ _ z. f (omega (arith, e)))) at
-          (subst (λ p. Leads next p cs) (same x q) (leads_kept (link_in w2) next (link_in w2 x) cs kept (h.links x m q)))
+          (subst (λ p. Leads next p cs) (same x q)
+          (leads_kept (link_in w2) next (link_in w2 x) cs kept (h.links x m q)))
         where
           cs : List ℕ
           cs = from (max (suc c) (suc x)) (class n l x)
@@ -256,7 +257,8 @@ module _ {n : ℕ} {l : Labels} {c : ℕ} {w2 : List ℕ} (h : LinkThere n l (su
       )
 
   pub link_put : label_in w2 c ≢ 0 → label_in w2 c - 1 ≢ c
-      → Linked n l c w2 (put_behind w2 c (label_in w2 c + link_in w2 (label_in w2 c - 1) * link_field) (label_in w2 c - 1)
+      → Linked n l c w2
+      (put_behind w2 c (label_in w2 c + link_in w2 (label_in w2 c - 1) * link_field) (label_in w2 c - 1)
       (label_in w2 c + (c + 1) * link_field))
   link_put z f =
       let q = h.labels c h.within in
@@ -279,7 +281,8 @@ module _ {n c : ℕ} {w2 w2' : List ℕ} (s : Linking n c w2 w2') where
   linking_there p {l} h = let e : suc (c - 1) ≡ c = omega arith in rw e (s.there l h)
 
   pub linking_more : 0 < c → {l : Labels} → LinkThere n l n w2 → {w2'' : List ℕ}
-      → ((n : ℕ) (l : Labels) → LinkThere n l (suc (c - 1)) w2' → Linked n l (c - 1) w2' w2'') → Linking n (c - 1) w2 w2''
+      → ((n : ℕ) (l : Labels) → LinkThere n l (suc (c - 1)) w2' → Linked n l (c - 1) w2' w2'')
+      → Linking n (c - 1) w2 w2''
   linking_more p {l} h f = record {
     front = front_all s.front (f n l (linking_there p h)).front;
     there = λ k g. (f n k (linking_there p g)).there;

@@ -1,6 +1,7 @@
 -- The labels of the cells in the second buffer, and the links of the cells of a group. Inner contracts cite this; laws:
 -- proofs/Labelling, Sweeping and Links.
-use Rattle.std.specs.Prelude.{◌≡◌, Bool, true, false, cond, List, [], ◌∷◌, ℕ, suc, ◌+◌, ◌/◌, ◌%◌, ◌≤◌, ◌<◌, max, ltb, length, get_or}
+use Rattle.std.specs.Prelude.{◌≡◌, Bool, true, false, cond, List, [], ◌∷◌, ℕ, suc, ◌+◌, ◌/◌, ◌%◌, ◌≤◌, ◌<◌}
+use Rattle.std.specs.Prelude.{max, ltb, length, get_or}
 use Rattle.buffers.specs.Map.{unit, at_cells, at_labels, link_field}
 use Rattle.matching.specs.Pairs.{Points}
 use Rattle.matching.specs.Listed.{short_list}

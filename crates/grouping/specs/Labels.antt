@@ -1,7 +1,8 @@
 -- The labels by which groups are found. Only contracts of inner functions cite these; the laws `labels_split`,
 -- `labels_class`, `labels_largest` and `labels_parts` (proofs/Classes) tie them to the groups, so that nobody has to
 -- believe them.
-use Rattle.std.specs.Prelude.{◌≡◌, Bool, true, false, not, cond, ◌||◌, List, [], ◌∷◌, map, ℕ, zero, suc, ◌≤◌, ◌<◌, min, eqb, ltb}
+use Rattle.std.specs.Prelude.{◌≡◌, Bool, true, false, not, cond, ◌||◌, List, [], ◌∷◌, map, ℕ, zero, suc}
+use Rattle.std.specs.Prelude.{◌≤◌, ◌<◌, min, eqb, ltb}
 use Rattle.matching.specs.Lists.{any, mem}
 use Rattle.matching.specs.Pairs.{Pair, Points, touches}
 use Rattle.matching.specs.Listed.{Entry}

@@ -1,4 +1,6 @@
 // Inner, for solving: the connected groups of the cells left, by labels. See specs/Labels and specs/Finding.
+#![tactic(auto)]
+
 ghost use Rattle.std.specs.Prelude.{◌≡◌, cond, ℕ, suc, ◌<◌, ◌≤◌, min, ltb};
 ghost use Rattle.matching.specs.Pairs.{Points};
 ghost use Rattle.matching.specs.Graph.{Graph};

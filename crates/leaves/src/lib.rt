@@ -3,6 +3,8 @@
 // While leaves of u go one after the other, in the order in which reduce takes them, the pairs at u have lost together
 // the points of the last leaf's pair as it was at the start. So the graph stays as it is during a run, and every pair
 // at u loses that much once, at its end.
+#![tactic(auto)]
+
 ghost use Rattle.std.specs.Prelude.{◌≡◌, true, ◌+◌, ◌<◌, ◌≤◌, length, set};
 ghost use Rattle.buffers.specs.Map.{trail_room, at_names};
 ghost use Rattle.matching.specs.Pairs.{touches};
@@ -104,7 +106,7 @@ fn note(w2: &mut [u64], t: usize, k: usize, u: usize, v: usize)
 }
 
 // A run so far: the cell where it stands, what the pairs at u are to lose, and its steps.
-#[derive(Drop)]
+#[derive(Clone, Copy)]
 struct Owed {
     cell: usize,
     points: u64,
@@ -154,7 +156,7 @@ fn take_leaves(
 }
 
 // After a run: its steps, what they carry, and a cell below which there is no leaf.
-#[derive(Drop)]
+#[derive(Clone, Copy)]
 pub struct LeafRun {
     pub steps: usize,
     pub carried: u64,

@@ -1,6 +1,7 @@
 -- Solve. In order: of a graph in the slots, refusal 11 (`tail_crowded`), the table of its solution (`tail_table`), room
--- for the words that are listed of it (`tail_room`), and the file that they make (`tail_written`); what the start refuses (`solve_refused`); what a slip
--- leaves may be solved (`solve_left`), and that is what solve is to write (`solve_passed`). Assumes nothing.
+-- for the words that are listed of it (`tail_room`), and the file that they make (`tail_written`); what the start
+-- refuses (`solve_refused`); what a slip leaves may be solved (`solve_left`), and that is what solve is to write
+-- (`solve_passed`). Assumes nothing.
 use mathlib.Core.Path.{◌≡◌, refl, sym, ap, subst, ◌∙◌}
 use mathlib.Core.Bool.{Bool}
 use mathlib.Core.List.{List, [], ◌∷◌, ◌++◌, map}

@@ -8,7 +8,8 @@ use Rattle.matching.specs.Listed.{joined, listed}
 use Rattle.cellfile.specs.Bytes.{number}
 use Rattle.cellfile.specs.Fields.{fields, read_records}
 use Rattle.cellfile.specs.Files.{list_layout, entries_all, in_view}
-use Rattle.checks.specs.Refusals.{too_few_words, not_alist, is_too_large, wrong_length, stray_entry, unordered, misheaded, bad_slip}
+use Rattle.checks.specs.Refusals.{too_few_words, is_no_list, is_too_large, wrong_length, stray_entry, unordered}
+use Rattle.checks.specs.Refusals.{misheaded, bad_slip}
 use Rattle.checks.specs.Refusals.{bad_pairing}
 use Rattle.lifting.specs.Calls.{lifting}
 use Rattle.cellfile.proofs.Worked.{list, pairing}
@@ -18,7 +19,8 @@ abbrev empty_slip : List ℕ
 empty_slip = 0x30 ∷ 0x04 ∷ 0x00 ∷ 0x00 ∷ []
 
 pub no_points_refused : lifting list empty_slip pairing (8192 ∷ 8192 ∷ []) 7 9 ≡ (10, [])
-unfolding number fields read_records list_layout entries_all in_view too_few_words not_alist is_too_large wrong_length stray_entry
+unfolding number fields read_records list_layout entries_all in_view too_few_words is_no_list is_too_large
+    wrong_length stray_entry
     unordered misheaded bad_slip
     bad_pairing is_pairing joined listed
 no_points_refused = refl

@@ -29,6 +29,7 @@ pub fn write_pairs(n: usize, w1: &[u64], r: usize, out: &mut [u8]) -> Lengths
 }
 
 // The same, and the origin list whose records are the r words from `ORIGIN_WORDS` on.
+#[tactic(auto, using(crate::proofs::Pairs::both_first, crate::proofs::Pairs::both_second))]
 fn write_both(n: usize, w1: &[u64], r: usize, out: &mut [u8], origins: &mut [u8]) -> Lengths
     requires { (n ≤ 1024) × (r ≤ 512) × (8192 ≤ length w1.now) }
     ensures { Does []

@@ -1,4 +1,6 @@
 // Solving what a slip leaves, lifting a pairing through a slip, and pairing a list: the calls solve, lift and pair.
+#![tactic(auto)]
+
 mod calls;
 mod ends;
 mod pairing;
@@ -8,7 +10,7 @@ ghost use Rattle.buffers.specs.Buffers.{lent, Cleared};
 ghost use Rattle.cellfile.specs.Answers.{written};
 ghost use Rattle.checks.specs.Calls.{answered};
 ghost use Rattle.lifting.specs.Calls.{solving, solve_file, lifting, lift_file, lift_origins};
-ghost use Rattle.lifting.specs.Calls.{pairing as pairingAnswer, pairing_file, pairing_origins};
+ghost use Rattle.lifting.specs.Calls.{pairing as pairing_answer, pairing_file, pairing_origins};
 
 use buffers;
 use checks;
@@ -71,7 +73,7 @@ pub fn pair(
     pairing: &mut [u8],
     origins: &mut [u8],
 ) -> Lengths
-    ensures answer { answered result ≡ pairingAnswer list.now
+    ensures answer { answered result ≡ pairing_answer list.now
         (lent work_a.old work_b.old) (length pairing.old)
         (length origins.old) }
     ensures outputs { (pairing.new ≡ written (answered result).0 (pairing_file list.now)

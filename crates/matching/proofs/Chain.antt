@@ -13,9 +13,10 @@ use Rattle.matching.specs.Pairing.{Once, Pairing}
 use Rattle.matching.specs.Graph.{Graph, put, dropped}
 use Rattle.matching.specs.Best.{H, best, tie, walk}
 use Rattle.matching.specs.Steps.{chain, chained, undo, outside, down}
-use Rattle.matching.proofs.Tests.{Test, pass, fail, is_test, eq_test, lt_test, not_test, and_test, or_test, holds, fails}
+use Rattle.matching.proofs.Tests.{Test, pass, fail, is_test, eq_test, lt_test, not_test, and_test, or_test, holds}
+use Rattle.matching.proofs.Tests.{fails}
 use Rattle.matching.proofs.Members.{Away, no_mem, mem_on, mem_head, mem_apart, mem_more}
-use Rattle.matching.proofs.Pairs.{Same, same_t}
+use Rattle.matching.proofs.Pairs.{Same, same_test}
 use Rattle.matching.proofs.Sums.{Turned, times_none, one_times, sum_apart, sum_unless, turned_same, each_keep}
 use Rattle.matching.proofs.Sums.{keep_and, hit_left, hit_right, hit_some, hit_turned, like_turned, once_cons}
 use Rattle.matching.proofs.Best.{h_less}
@@ -69,7 +70,7 @@ module _ {n : ℕ} {w : Points} (g : Graph n w) {u : ℕ} {inner : List ℕ} {v 
 
   pub chain_vz : after v z ≡ H w (u ∷ []) row - carried
   unfolding chained
-  chain_vz = put_else u z _ _ v z (fails (same_t u z v z) clash) ∙ put_at v z _ _
+  chain_vz = put_else u z _ _ v z (fails (same_test u z v z) clash) ∙ put_at v z _ _
     where
       clash : Same u z v z → ⊥
       clash (inl e) = u≢v (sym e.0)
@@ -124,7 +125,7 @@ module _ {n : ℕ} {w : Points} (g : Graph n w) {u : ℕ} {inner : List ℕ} {v 
       go : {t : Bool} → Test (same u v a b ≡ true) (same u v a b ≡ false) t
           → (through < w u v) ⊎ (same u v a b ≡ false) → Kept inner w after a b
       go (pass e) (inl d) =
-          let f = holds (same_t u v a b) e in (direct_away a b f, omega (arith, direct_points a b f), h)
+          let f = holds (same_test u v a b) e in (direct_away a b f, omega (arith, direct_points a b f), h)
       go (pass e) (inr f) = other f
       go (fail f) d = other f
 
@@ -141,7 +142,8 @@ module _ {n : ℕ} {w : Points} (g : Graph n w) {u : ℕ} {inner : List ℕ} {v 
       where
         at : (a b : ℕ) → 0 < after a b → stay d a b ≡ true → Kept inner w after a b
         at a b h e =
-            let inner_test = and_test (not_test (is_test (same v z a b))) (or_test t (not_test (is_test (same u v a b)))) in
+            let inner_test = and_test (not_test (is_test (same v z a b)))
+            (or_test t (not_test (is_test (same u v a b)))) in
             let f = holds (and_test (not_test (is_test (same u z a b))) inner_test) e in
             chain_kept a b h f.0 f.1.0 f.1.1
 
@@ -240,7 +242,8 @@ module _ {n : ℕ} {w : Points} (g : Graph n w) {u : ℕ} {inner : List ℕ} {v 
 
     pub chain_lifted : Pairing w (undo w (chain u v z inner) m)
         × (sum w (undo w (chain u v z inner) m) ≡ sum after m + carried)
-    chain_lifted = by_held (lt_test 0 k₁) (lt_test 0 (sum (like v z) m)) (lt_test 0 (sum (like u v) m)) (lt_test through (w u v))
+    chain_lifted = by_held (lt_test 0 k₁) (lt_test 0 (sum (like v z) m)) (lt_test 0 (sum (like u v) m))
+        (lt_test through (w u v))
 
   -- ---- the way down
 
@@ -248,7 +251,7 @@ module _ {n : ℕ} {w : Points} (g : Graph n w) {u : ℕ} {inner : List ℕ} {v 
   grown a b h = go (is_test (same u v a b))
     where
       go : {t : Bool} → Test (same u v a b ≡ true) (same u v a b ≡ false) t → w a b ≤ after a b
-      go (pass e) = omega (arith, direct_points a b (holds (same_t u v a b) e))
+      go (pass e) = omega (arith, direct_points a b (holds (same_test u v a b) e))
       go (fail e) = omega (arith, chain_out a b h e)
 
   pub chain_brought : (m : List Pair) → Pairing w m

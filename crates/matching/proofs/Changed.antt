@@ -44,6 +44,12 @@ module _ {n : ℕ} {w : Points} (g : Graph n w) where
 
   -- where there is no leaf every chain has ends of more than two pairs
   pub proper_quiet : ((x : ℕ) → degree n w x ≢ 1) → (r : Rule) (c : ℕ) (s : Step) → IsStep n w r c s → Proper n w s
+  proper_quiet q by_leaf c (ring u z inner) p = elim p [ ]
+  proper_quiet q by_leaf c (chain u v z inner) p = elim p [ ]
+  proper_quiet q by_ring c (leaf u v) p = elim p [ ]
+  proper_quiet q by_ring c (chain u v z inner) p = elim p [ ]
+  proper_quiet q by_chain c (leaf u v) p = elim p [ ]
+  proper_quiet q by_chain c (ring u z inner) p = elim p [ ]
   proper_quiet q by_leaf c (leaf u v) p = tt
   proper_quiet q by_ring c (ring u z inner) p = tt
   proper_quiet q by_chain c (chain u v z inner) p =
@@ -93,7 +99,8 @@ module _ {n : ℕ} {w : Points} (g : Graph n w) where
       → degree n w x ≡ suc (degree n (leafed w u v) x)
   unfolding leafed
   leaf_less {u} {v} l x nv p low =
-      degree_less n w (leafed w u v) x u (pair_below g x u p).1 (λ y d. at y d (touches_test v x y) (touches_test u x y)) p
+      degree_less n w (leafed w u v) x u (pair_below g x u p).1
+      (λ y d. at y d (touches_test v x y) (touches_test u x y)) p
       (gone (touches_test v x u) (touches_test u x u))
     where
       nu : x ≢ u
@@ -137,7 +144,14 @@ module _ {n : ℕ} {w : Points} (g : Graph n w) where
   -- a step changes the degrees of no other cells
   pub changed_or_same : (r : Rule) (c : ℕ) (s : Step) → IsStep n w r c s → (x : ℕ)
       → (degree n (apply w s) x ≡ degree n w x) ⊎ (Loses w s x ⊎ Goes s x)
-  changed_or_same by_leaf c (leaf u v) p x = go (eq_test x u) (eq_test x v) (lt_test 0 (w x u)) (lt_test (w u v) (w x u))
+  changed_or_same by_leaf c (ring u z inner) p x = elim p [ ]
+  changed_or_same by_leaf c (chain u v z inner) p x = elim p [ ]
+  changed_or_same by_ring c (leaf u v) p x = elim p [ ]
+  changed_or_same by_ring c (chain u v z inner) p x = elim p [ ]
+  changed_or_same by_chain c (leaf u v) p x = elim p [ ]
+  changed_or_same by_chain c (ring u z inner) p x = elim p [ ]
+  changed_or_same by_leaf c (leaf u v) p x = go (eq_test x u) (eq_test x v) (lt_test 0 (w x u))
+      (lt_test (w u v) (w x u))
     where
       go : {a b d e : Bool} → Test (x ≡ u) (x ≢ u) a → Test (x ≡ v) (x ≢ v) b → Test (0 < w x u) (w x u ≤ 0) d
           → Test (w u v < w x u) (w x u ≤ w u v) e
@@ -166,7 +180,14 @@ module _ {n : ℕ} {w : Points} (g : Graph n w) where
           inl (degree_kept n w (chained w u v z inner) x (chain_same g p.1 x o nu nv))
 
   -- a cell that goes and has a pair is the one that is left
-  goes_left : (r : Rule) (c : ℕ) (s : Step) → IsStep n w r c s → (x : ℕ) → Goes s x → 0 < degree n (apply w s) x → Left s x
+  goes_left : (r : Rule) (c : ℕ) (s : Step) → IsStep n w r c s → (x : ℕ) → Goes s x → 0 < degree n (apply w s) x
+      → Left s x
+  goes_left by_leaf c (ring u z inner) p x q h = elim p [ ]
+  goes_left by_leaf c (chain u v z inner) p x q h = elim p [ ]
+  goes_left by_ring c (leaf u v) p x m h = elim p [ ]
+  goes_left by_ring c (chain u v z inner) p x m h = elim p [ ]
+  goes_left by_chain c (leaf u v) p x m h = elim p [ ]
+  goes_left by_chain c (ring u z inner) p x m h = elim p [ ]
   goes_left by_leaf c (leaf u v) p x q h = absurd (omega (arith, ap (degree n (leafed w u v)) q, leaf_gone p.1))
   goes_left by_ring c (ring u z inner) p x m h = go (partners n (ringed w u z inner) x) refl
     where
@@ -189,6 +210,12 @@ module _ {n : ℕ} {w : Points} (g : Graph n w) where
 
   goes_one : (r : Rule) (c : ℕ) (s : Step) → IsStep n w r c s → (x : ℕ) → degree n (apply w s) x ≡ 1
       → degree n w x ≡ 1 → Goes s x → ⊥
+  goes_one by_leaf c (ring u z inner) p x after one q = elim p [ ]
+  goes_one by_leaf c (chain u v z inner) p x after one q = elim p [ ]
+  goes_one by_ring c (leaf u v) p x after one m = elim p [ ]
+  goes_one by_ring c (chain u v z inner) p x after one m = elim p [ ]
+  goes_one by_chain c (leaf u v) p x after one m = elim p [ ]
+  goes_one by_chain c (ring u z inner) p x after one m = elim p [ ]
   goes_one by_leaf c (leaf u v) p x after one q = omega (arith, ap (degree n (leafed w u v)) q, leaf_gone p.1)
   goes_one by_ring c (ring u z inner) p x after one m = omega (arith, p.1.row.two x m)
   goes_one by_chain c (chain u v z inner) p x after one m = omega (arith, p.1.row.two x m)
@@ -205,6 +232,12 @@ module _ {n : ℕ} {w : Points} (g : Graph n w) where
       go (inr (inr k)) = inr (inr (goes_left r c s p x k (omega arith)))
 
   goes_few : (r : Rule) (c : ℕ) (s : Step) → IsStep n w r c s → (x : ℕ) → Goes s x → degree n w x ≤ 2
+  goes_few by_leaf c (ring u z inner) p x q = elim p [ ]
+  goes_few by_leaf c (chain u v z inner) p x q = elim p [ ]
+  goes_few by_ring c (leaf u v) p x m = elim p [ ]
+  goes_few by_ring c (chain u v z inner) p x m = elim p [ ]
+  goes_few by_chain c (leaf u v) p x m = elim p [ ]
+  goes_few by_chain c (ring u z inner) p x m = elim p [ ]
   goes_few by_leaf c (leaf u v) p x q = omega (arith, ap (degree n w) q, p.1.one)
   goes_few by_ring c (ring u z inner) p x m = omega (arith, p.1.row.two x m)
   goes_few by_chain c (chain u v z inner) p x m = omega (arith, p.1.row.two x m)
@@ -226,6 +259,12 @@ module _ {n : ℕ} {w : Points} (g : Graph n w) where
 
   pub inside_two : (w' : Points) (r : Rule) (c : ℕ) (t : Step) → IsStep n w' r c t → (x : ℕ) → mem x (inside t) ≡ true
       → degree n w' x ≡ 2
+  inside_two w' by_leaf c (ring u z inner) p x m = elim p [ ]
+  inside_two w' by_leaf c (chain u v z inner) p x m = elim p [ ]
+  inside_two w' by_ring c (leaf u v) p x m = elim p [ ]
+  inside_two w' by_ring c (chain u v z inner) p x m = elim p [ ]
+  inside_two w' by_chain c (leaf u v) p x m = elim p [ ]
+  inside_two w' by_chain c (ring u z inner) p x m = elim p [ ]
   inside_two w' by_leaf c (leaf u v) p x m = no_mem x m
   inside_two w' by_ring c (ring u z inner) p x m = p.1.row.two x m
   inside_two w' by_chain c (chain u v z inner) p x m = p.1.row.two x m
@@ -259,6 +298,10 @@ module _ {n : ℕ} {w : Points} (g : Graph n w) where
       go (fail o) = (a, mem_head a a (b ∷ cs) refl, o)
 
   gone_again : (r : Rule) (c : ℕ) (s : Step) → r ≢ by_leaf → IsStep n w r c s → IsStep n (apply w s) r c s → ⊥
+  gone_again by_ring c (leaf u v) d p i = elim p [ ]
+  gone_again by_ring c (chain u v z inner) d p i = elim p [ ]
+  gone_again by_chain c (leaf u v) d p i = elim p [ ]
+  gone_again by_chain c (ring u z inner) d p i = elim p [ ]
   gone_again by_leaf c s d p i = d refl
   gone_again by_ring c (ring u z inner) d p i =
       let y = other z inner p.1.row.more p.1.row.apart in

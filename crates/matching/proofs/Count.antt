@@ -19,7 +19,7 @@ use Rattle.matching.specs.Steps.{Step, leaf, ring, chain, leafed, ringed, chaine
 use Rattle.matching.specs.Shapes.{first}
 use Rattle.matching.proofs.Tests.{Test, pass, fail, eq_test, lt_test}
 use Rattle.matching.proofs.Members.{no_mem, mem_on, mem_head, mem_more, mem_not, mem_apart, distinct_cons}
-use Rattle.matching.proofs.Pairs.{Same, Apart, same_t}
+use Rattle.matching.proofs.Pairs.{Same, Apart, same_test}
 use Rattle.matching.proofs.Sums.{touches_test, hit_turned, hit_none, hit_left, hit_right, zero_like, turned_same, In}
 use Rattle.matching.proofs.Sums.{in_cases, no_in}
 use Rattle.matching.proofs.Fits.{Segment, Fits}
@@ -74,7 +74,7 @@ off_hit c a b cs h i j = hit_none c a b (λ q. mem_apart c a cs h i (sym q)) (λ
 
 like_there : {n : ℕ} {w : Points} → Graph n w → (x y : ℕ) → 0 < w x y → (a b : ℕ) → like x y a b ≤ there w a b
 unfolding like
-like_there {n} {w} g x y h a b = go (same_t x y a b)
+like_there {n} {w} g x y h a b = go (same_test x y a b)
   where
     go : {t : Bool} → Test (Same x y a b) (Apart x y a b) t → ι t ≤ there w a b
     go (pass (inl p)) =

@@ -36,7 +36,7 @@ use Rattle.matching.proofs.ShortOwn.{short_length}
 module _ {n : ℕ} where
   pub slip_graph : {w : Points} → Graph n w → (ss : List Step) → Stands w ss → Graph n (left w ss)
   slip_graph g [] f = g
-  slip_graph g (s ∷ ss) f = slip_graph (step_graph g s f.0) ss f.1
+  slip_graph {w = w} g (s ∷ ss) f = slip_graph {w = apply w s} (step_graph g s f.0) ss f.1
 
   pub slip_lifted : {w : Points} → Graph n w → (ss : List Step) → Stands w ss
       → (m : List Pair) → Pairing (left w ss) m
@@ -44,7 +44,7 @@ module _ {n : ℕ} where
   slip_lifted g [] f m p = (p, omega arith)
   slip_lifted {w} g (s ∷ ss) f m p =
       let x = step_exact g s f.0 in
-      let a = slip_lifted x.graph ss f.1 m p in
+      let a = slip_lifted {w = apply w s} x.graph ss f.1 m p in
       let b = x.lifted (lift (apply w s) ss m) a.0 in
       (b.0, omega arith)
 
@@ -55,16 +55,16 @@ module _ {n : ℕ} where
   slip_brought {w} g (s ∷ ss) f m p =
       let x = step_exact g s f.0 in
       let a = x.brought m p in
-      let b = slip_brought x.graph ss f.1 (down w s m) a.0 in
+      let b = slip_brought {w = apply w s} x.graph ss f.1 (down w s m) a.0 in
       (b.0, omega arith)
 
   -- the short list never has more entries
   pub slip_no_more : {w : Points} → Graph n w → (ss : List Step) → Stands w ss
       → length (short_list n (left w ss)) ≤ length (short_list n w)
   slip_no_more g [] f = omega arith
-  slip_no_more g (s ∷ ss) f =
+  slip_no_more {w = w} g (s ∷ ss) f =
       let x = step_exact g s f.0 in
-      omega (arith, x.no_more, slip_no_more x.graph ss f.1)
+      omega (arith, x.no_more, slip_no_more {w = apply w s} x.graph ss f.1)
 
   -- the heaviest before and after the slip
   pub slip_level : {w : Points} → Graph n w → (ss : List Step) → Stands w ss → (a b : List Pair)

@@ -1,7 +1,7 @@
 -- Lists of entries. In order: what an accepted list is; it is a graph, by its points (`listed_graph`) and by its
 -- entries (`joined_graph`); it joins two cells at most once (`joined_once`); its entries and the points of their cells
--- (`has_listed`, `listed_has`); a pairing has at most the list's total (`pairing_total`); entries of zero points
--- change no heaviest pairing (`list-heaviest`). Assumes nothing.
+-- (`has_listed`, `listed_has`); a pairing has at most the list's total (`pairing_total`); entries of zero points change
+-- no heaviest pairing. Assumes nothing.
 use mathlib.Core.Path.{◌≡◌, refl, ap, ◌∙◌}
 use mathlib.Core.Logic.{inl, inr}
 use mathlib.Core.Bool.{Bool, true, false, cond}
@@ -16,7 +16,7 @@ use Rattle.matching.specs.Pairing.{Once, Pairing}
 use Rattle.matching.specs.Listed.{Entry, Before, Accepted, total, joined, listed, points}
 use Rattle.matching.specs.Graph.{Graph}
 use Rattle.matching.proofs.Tests.{Test, pass, fail, is_test, lt_test, fails}
-use Rattle.matching.proofs.Pairs.{Same, Apart, same_t}
+use Rattle.matching.proofs.Pairs.{Same, Apart, same_test}
 use Rattle.matching.proofs.Alls.{Has}
 use Rattle.matching.proofs.Listed.{joined_same, listed_same, listed_apart}
 use Rattle.matching.proofs.Sums.{times_le, sum_add, sum_scale, sum_le_all, sum_none, each_map, each_all}
@@ -45,8 +45,8 @@ graph_more : (n : ℕ) (w : Points) (x y : ℕ) → (x < y) × (y < n) → (f : 
 graph_more n w x y (l, k) f z g =
     record {
       turned = λ a b. cc (same_turned x y a b, g.turned a b);
-      loop = λ a. omega (arith, ap f (fails (same_t x y a a) (no_loop a)), g.loop a);
-      top = λ a b h. omega (arith, ap f (fails (same_t x y a b) (no_top a b h)), g.top a b h);
+      loop = λ a. omega (arith, ap f (fails (same_test x y a a) (no_loop a)), g.loop a);
+      top = λ a b h. omega (arith, ap f (fails (same_test x y a b) (no_top a b h)), g.top a b h);
     }
   where
     no_loop : (a : ℕ) → Same x y a a → ⊥
@@ -75,7 +75,7 @@ later_none : (n : ℕ) (e : Entry) → e.0 < e.1 → (a b : ℕ) → Same e.0 e.
 unfolding joined
 later_none n e l a b s [] p h = refl
 later_none n e l a b s (f ∷ fs) p h =
-    rw (fails (same_t f.0 f.1 a b) (no_way s p.0)) (omega (arith, later_none n e l a b s fs p.1 h.1.1))
+    rw (fails (same_test f.0 f.1 a b) (no_way s p.0)) (omega (arith, later_none n e l a b s fs p.1 h.1.1))
   where
     no_way : Same e.0 e.1 a b → Before e f → Same f.0 f.1 a b → ⊥
     no_way (inl s) (inl p) (inl q) = omega (arith, s.0, q.0)
@@ -90,7 +90,7 @@ later_none n e l a b s (f ∷ fs) p h =
 pub joined_once : (n : ℕ) (es : List Entry) → Accepted n es → (a b : ℕ) → joined es a b ≤ 1
 unfolding joined
 joined_once n [] h a b = omega arith
-joined_once n (e ∷ es) h a b = go (same_t e.0 e.1 a b) (joined_once n es h.1.1 a b)
+joined_once n (e ∷ es) h a b = go (same_test e.0 e.1 a b) (joined_once n es h.1.1 a b)
   where
     go : {t : Bool} → Test (Same e.0 e.1 a b) (Apart e.0 e.1 a b) t → joined es a b ≤ 1
         → ι t + joined es a b ≤ 1
@@ -165,7 +165,7 @@ pub listed_has : (n : ℕ) (es : List Entry) → Accepted n es → (a b : ℕ) �
     → Has es (a, b, listed es a b)
 unfolding listed
 listed_has n [] h a b l k = (let z : ⊥ = omega arith in absurd z)
-listed_has n (e ∷ es) h a b l k = go (same_t e.0 e.1 a b) k (listed_has n es h.1.1 a b l)
+listed_has n (e ∷ es) h a b l k = go (same_test e.0 e.1 a b) k (listed_has n es h.1.1 a b l)
   where
     go : {t : Bool} → Test (Same e.0 e.1 a b) (Apart e.0 e.1 a b) t → 0 < cond t e.2 0 + listed es a b
         → (0 < listed es a b → Has es (a, b, listed es a b)) → Has (e ∷ es) (a, b, cond t e.2 0 + listed es a b)

@@ -14,7 +14,7 @@ use Rattle.matching.specs.Pairs.{Pair, Points, ι, sum, Each, hit, like}
 use Rattle.matching.specs.Pairing.{Once, Pairing}
 use Rattle.matching.specs.Listed.{filed_in, filed}
 use Rattle.matching.proofs.Tests.{Test, pass, fail, lt_test}
-use Rattle.matching.proofs.Pairs.{Same, Apart, same_t}
+use Rattle.matching.proofs.Pairs.{Same, Apart, same_test}
 use Rattle.matching.proofs.Alls.{each_is_all, Has, all_at, ascends_same}
 use Rattle.matching.proofs.Sums.{each_map, each_zero, hit_turned, hit_some, like_turned, like_self}
 
@@ -111,7 +111,7 @@ has_like (f ∷ m) e (inr h) = omega (arith, has_like m e h)
 like_has : (a b : ℕ) → a < b → (m : List Pair) → InOrder m → 1 ≤ sum (like a b) m → Has m (a, b)
 unfolding like
 like_has a b l [] o h = (let z : ⊥ = omega arith in absurd z)
-like_has a b l (e ∷ m) o h = go (same_t a b e.0 e.1) h (like_has a b l m o.1.1)
+like_has a b l (e ∷ m) o h = go (same_test a b e.0 e.1) h (like_has a b l m o.1.1)
   where
     go : {t : Bool} → Test (Same a b e.0 e.1) (Apart a b e.0 e.1) t → 1 ≤ ι t + sum (like a b) m
         → (1 ≤ sum (like a b) m → Has m (a, b)) → Has (e ∷ m) (a, b)

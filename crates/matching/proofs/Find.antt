@@ -245,6 +245,18 @@ module _ {n : ℕ} {w : Points} (g : Graph n w) where
 
   -- its rule and its cell determine it
   pub step_one : (r : Rule) (c : ℕ) (s t : Step) → IsStep n w r c s → IsStep n w r c t → s ≡ t
+  step_one by_leaf c (leaf u v) (ring u' z' inner') p q = elim q [ ]
+  step_one by_leaf c (leaf u v) (chain u' v' z' inner') p q = elim q [ ]
+  step_one by_leaf c (ring u z inner) t p q = elim p [ ]
+  step_one by_leaf c (chain u v z inner) t p q = elim p [ ]
+  step_one by_ring c (leaf u v) t p q = elim p [ ]
+  step_one by_ring c (ring u z inner) (leaf u' v') p q = elim q [ ]
+  step_one by_ring c (ring u z inner) (chain u' v' z' inner') p q = elim q [ ]
+  step_one by_ring c (chain u v z inner) t p q = elim p [ ]
+  step_one by_chain c (leaf u v) t p q = elim p [ ]
+  step_one by_chain c (ring u z inner) t p q = elim p [ ]
+  step_one by_chain c (chain u v z inner) (leaf u' v') p q = elim q [ ]
+  step_one by_chain c (chain u v z inner) (ring u' z' inner') p q = elim q [ ]
   step_one by_leaf c (leaf u v) (leaf u' v') p q =
       cc (p.0, q.0, partners_one g v u p.1.one p.1.pair, partners_one g v' u' q.1.one q.1.pair)
   step_one by_ring c (ring u z inner) (ring u' z' inner') p q = ring_one p.1 q.1 (p.0 ∙ sym q.0)
@@ -263,6 +275,12 @@ module _ {n : ℕ} {w : Points} (g : Graph n w) where
   -- a step in the description's words is found
   pub step_found : (r : Rule) (c : ℕ) (s : Step) → IsStep n w r c s → step_at n w r c ≡ some s
   unfolding step_at
+  step_found by_leaf c (ring u z inner) p = elim p [ ]
+  step_found by_leaf c (chain u v z inner) p = elim p [ ]
+  step_found by_ring c (leaf u v) p = elim p [ ]
+  step_found by_ring c (chain u v z inner) p = elim p [ ]
+  step_found by_chain c (leaf u v) p = elim p [ ]
+  step_found by_chain c (ring u z inner) p = elim p [ ]
   step_found by_leaf c (leaf u v) p = rw (← p.0, partners_one g v u p.1.one p.1.pair)
   step_found by_ring c (ring u z inner) p =
       let r = p.1 in
@@ -300,6 +318,12 @@ module _ {n : ℕ} {w : Points} (g : Graph n w) where
   }
 
   pub is_fits : (r : Rule) (c : ℕ) (s : Step) → IsStep n w r c s → Fits w s
+  is_fits by_leaf c (ring u z inner) p = elim p [ ]
+  is_fits by_leaf c (chain u v z inner) p = elim p [ ]
+  is_fits by_ring c (leaf u v) p = elim p [ ]
+  is_fits by_ring c (chain u v z inner) p = elim p [ ]
+  is_fits by_chain c (leaf u v) p = elim p [ ]
+  is_fits by_chain c (ring u z inner) p = elim p [ ]
   is_fits by_leaf c (leaf u v) p = record {
     apart = pair_apart g u v pair;
     pair = pair;
@@ -322,11 +346,23 @@ module _ {n : ℕ} {w : Points} (g : Graph n w) where
   -- ---- the first step
 
   pub step_name : (r : Rule) (c : ℕ) (s : Step) → IsStep n w r c s → name s ≡ (r, c)
+  step_name by_leaf c (ring u z inner) p = elim p [ ]
+  step_name by_leaf c (chain u v z inner) p = elim p [ ]
+  step_name by_ring c (leaf u v) p = elim p [ ]
+  step_name by_ring c (chain u v z inner) p = elim p [ ]
+  step_name by_chain c (leaf u v) p = elim p [ ]
+  step_name by_chain c (ring u z inner) p = elim p [ ]
   step_name by_leaf c (leaf u v) p = ap (λ x. (by_leaf, x)) p.0
   step_name by_ring c (ring u z inner) p = ap (λ x. (by_ring, x)) p.0
   step_name by_chain c (chain u v z inner) p = ap (λ x. (by_chain, x)) p.0
 
   pub step_below : (r : Rule) (c : ℕ) (s : Step) → IsStep n w r c s → c < n
+  step_below by_leaf c (ring u z inner) p = elim p [ ]
+  step_below by_leaf c (chain u v z inner) p = elim p [ ]
+  step_below by_ring c (leaf u v) p = elim p [ ]
+  step_below by_ring c (chain u v z inner) p = elim p [ ]
+  step_below by_chain c (leaf u v) p = elim p [ ]
+  step_below by_chain c (ring u z inner) p = elim p [ ]
   step_below by_leaf c (leaf u v) p = omega (arith, (pair_below g v u p.1.pair).0)
   step_below by_ring c (ring u z inner) p = omega (arith, inner_below g p.1.row z p.1.low.here)
   step_below by_chain c (chain u v z inner) p = omega (arith, inner_below g p.1.row z p.1.low.here)
@@ -381,7 +417,8 @@ module _ {n : ℕ} {w : Points} (g : Graph n w) where
   first_step_first s h = (subst (First n w) h first_step).1
 
   -- a leaf, where no lower cell is one
-  pub first_leaf : (u v : ℕ) → IsLeaf n w u v → ((c : ℕ) → c < v → degree n w c ≢ 1) → first_step_of n w ≡ some (leaf u v)
+  pub first_leaf : (u v : ℕ) → IsLeaf n w u v → ((c : ℕ) → c < v → degree n w c ≢ 1)
+      → first_step_of n w ≡ some (leaf u v)
   unfolding first_step_of
   first_leaf u v l none_below =
       ap (λ (o : Option Step). or_else o (or_else (search (step_at n w by_ring) n) (search (step_at n w by_chain) n)))
@@ -389,6 +426,8 @@ module _ {n : ℕ} {w : Points} (g : Graph n w) where
       (step_found by_leaf v (leaf u v) (refl, l)) (λ c k. (step_none by_leaf c).1 (off c k)))
     where
       off : (c : ℕ) → c < v → (s : Step) → IsStep n w by_leaf c s → ⊥
+      off c k (ring _ z inner) p = elim p [ ]
+      off c k (chain _ _ z inner) p = elim p [ ]
       off c k (leaf u' v') p = none_below c k (rw (← p.0) p.1.one)
 
   pub first_step_none : (first_step_of n w ≡ none) ↔ ((r : Rule) (c : ℕ) (s : Step) → IsStep n w r c s → ⊥)

@@ -1,10 +1,11 @@
 -- Sets of cells that no pair leaves, solved one by one: joined, they give every sum that the whole gives
--- (`solve_groups`), so the same file (`groups_filed`): the heaviest of the whole, with the same choice among equals. In order: the best of some pairs, split by such a set (`h_split`,
+-- (`solve_groups`), so the same file (`groups_filed`): the heaviest of the whole, with the same choice among equals. In
+-- order: the best of some pairs, split by such a set (`h_split`,
 -- `best_in`); the pairs of a set; sets that hold each cell once (`Parts`); the laws. Assumes nothing.
 use mathlib.Core.Path.{◌≡◌, refl, sym, ap, ap₂, ◌∙◌}
 use mathlib.Core.Logic.{◌≢◌}
 use mathlib.Core.Bool.{Bool, true, false, not, cond, ◌&&◌, false≢true}
-use mathlib.Core.List.{List, [], ◌∷◌, ◌++◌}
+use mathlib.Core.List.{List, [], ◌∷◌}
 use Prim.Native.Nat.{ℕ, ◌+◌, ◌*◌, ◌≤◌, ◌<◌, max}
 use native.Mathlib.Omega.{arith}
 use lib.ListN.{length}

@@ -2,7 +2,6 @@
 -- solution (`groups_solved`). In order: the lowest of some cells; what holds of a group's cells; the laws. Assumes
 -- nothing.
 use mathlib.Core.Path.{◌≡◌, refl, sym, ap, subst, ◌∙◌}
-use mathlib.Core.Logic.{◌≢◌}
 use mathlib.Core.Bool.{Bool, true, false, cond, ◌&&◌}
 use mathlib.Core.List.{List, [], ◌∷◌, ◌++◌, map, map-append}
 use Prim.Native.Nat.{ℕ, zero, suc, ◌+◌, ◌≤◌, ◌<◌}
@@ -83,7 +82,8 @@ module _ {n : ℕ} {w : Points} (g : Graph n w) where
   pub groups_parts : Parts w (with_pairs n w) (groups n w)
   groups_parts = record {
     rise = all_mapped Rises (group n w) firsts (all_map (λ d l. reached_rises n w d n) firsts low);
-    closed = all_mapped (λ cs. Closed w (λ x. mem x cs)) (group n w) firsts (all_map (λ d l. group_closed n w d g l) firsts low);
+    closed = all_mapped (λ cs. Closed w (λ x. mem x cs)) (group n w) firsts
+        (all_map (λ d l. group_closed n w d g l) firsts low);
     once = λ c. holding_where first (group n w) n c ∙ count c (with_test n w c);
   }
     where
@@ -104,7 +104,8 @@ module _ {n : ℕ} {w : Points} (g : Graph n w) where
       not_held c d f =
           ap ι (fails (is_test (held c d)) (λ h.
           let q =
-          holds (and_test (and_test (lt_test 0 (degree n w d)) (is_test (leads (group n w d) d))) (is_test (mem c (group n w d)))) h in
+          holds (and_test (and_test (lt_test 0 (degree n w d)) (is_test (leads (group n w d) d)))
+          (is_test (mem c (group n w d)))) h in
           f (q.0.0, q.0.1, q.1)))
 
       count : (c : ℕ) → {t : Bool} → Test ((c < n) × (0 < degree n w c)) (c < n → degree n w c ≤ 0) t

@@ -46,6 +46,12 @@ module _ (n k : ℕ) (w : Points) (same : (c : ℕ) → degree n w c ≡ degree 
   not_two_by c d e = d (same c ∙ e)
 
   is_by : (r : Rule) (c : ℕ) (s : Step) → IsStep n w r c s → IsStep k w r c s
+  is_by by_leaf c (ring u z inner) p = elim p [ ]
+  is_by by_leaf c (chain u v z inner) p = elim p [ ]
+  is_by by_ring c (leaf u v) p = elim p [ ]
+  is_by by_ring c (chain u v z inner) p = elim p [ ]
+  is_by by_chain c (leaf u v) p = elim p [ ]
+  is_by by_chain c (ring u z inner) p = elim p [ ]
   is_by by_leaf c (leaf u v) p = (p.0, record { one = sym (same v) ∙ p.1.one; pair = p.1.pair })
   is_by by_ring c (ring u z inner) p = (
     p.0,

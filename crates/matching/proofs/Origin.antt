@@ -50,7 +50,8 @@ each_held ((a, b) ∷ l) all h = (
 
 -- ---- the numbers of the steps
 
-pub origins_few : (top : ℕ) (o : Origins) → ((a b : ℕ) → number_in (o a b) < top) → (w : Points) (k : ℕ) (ss : List Step)
+pub origins_few : (top : ℕ) (o : Origins) → ((a b : ℕ) → number_in (o a b) < top)
+    → (w : Points) (k : ℕ) (ss : List Step)
     (m : List Pair) → k + length ss ≤ top → (a b : ℕ) → number_in (origins_by o w k ss m a b) < top
 origins_few top o h w k [] m l a b = h a b
 origins_few top o h w k (s ∷ ss) m l a b =

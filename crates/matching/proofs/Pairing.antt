@@ -1,5 +1,5 @@
--- Pairings: the test `is_pairing` and the statement `Pairing` agree (`is_pairing_is`, `pairing_is`); of pairs that hold no
--- cell twice, those that a graph has are a pairing of it with the same points (`trimmed`).
+-- Pairings: the test `is_pairing` and the statement `Pairing` agree (`is_pairing_is`, `pairing_is`); of pairs that hold
+-- no cell twice, those that a graph has are a pairing of it with the same points (`trimmed`).
 use mathlib.Core.Path.{◌≡◌, refl}
 use mathlib.Core.Logic.{◌⊎◌, inl, inr}
 use mathlib.Core.Bool.{true, not}

@@ -1,4 +1,5 @@
--- The tests over pairs: whether two pairs are the same (`same_t`), whether every pair of a list is as P says (`each_test`).
+-- The tests over pairs: whether two pairs are the same (`same_test`), whether every pair of a list is as P says
+-- (`each_test`).
 -- Assumes nothing.
 use mathlib.Core.Path.{◌≡◌}
 use mathlib.Core.Logic.{◌⊎◌, inl, inr, ◌≢◌}
@@ -16,8 +17,8 @@ Same x y a b = ((a ≡ x) × (b ≡ y)) ⊎ ((a ≡ y) × (b ≡ x))
 abbrev pub Apart : ℕ → ℕ → ℕ → ℕ → Type 0
 Apart x y a b = ((a ≢ x) ⊎ (b ≢ y)) × ((a ≢ y) ⊎ (b ≢ x))
 
-pub same_t : (x y a b : ℕ) → Test (Same x y a b) (Apart x y a b) (same x y a b)
-same_t x y a b = or_test (and_test (eq_test a x) (eq_test b y)) (and_test (eq_test a y) (eq_test b x))
+pub same_test : (x y a b : ℕ) → Test (Same x y a b) (Apart x y a b) (same x y a b)
+same_test x y a b = or_test (and_test (eq_test a x) (eq_test b y)) (and_test (eq_test a y) (eq_test b x))
 
 pub each_test : {P : ℕ → ℕ → Type 0} {t : ℕ → ℕ → Bool} → ((a b : ℕ) → Test (P a b) (P a b → ⊥) (t a b))
     → (m : List Pair) → Test (Each P m) (Each P m → ⊥) (all (λ (e : Pair). t e.0 e.1) m)

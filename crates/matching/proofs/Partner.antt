@@ -13,7 +13,7 @@ use borrow.Author.Tests.{eq-eqb, ne_eqb}
 use Rattle.matching.specs.Pairs.{Pair, Points, ι, sum, Each, hit, like, without}
 use Rattle.matching.specs.Pairing.{Once, seen, partner, First}
 use Rattle.matching.proofs.Tests.{Test, pass, fail, eq_test}
-use Rattle.matching.proofs.Pairs.{Same, Apart, same_t}
+use Rattle.matching.proofs.Pairs.{Same, Apart, same_test}
 use Rattle.matching.proofs.Sums.{times_one, sum_apart, sum_none, each_zero, hit_none, like_self, like_turned}
 use Rattle.matching.proofs.Sums.{like_once, like_hit}
 
@@ -96,7 +96,7 @@ pub held_points : (w : Points) → ((a b : ℕ) → w a b ≡ w b a) → (x y : 
     → 1 ≤ sum (like x y) m → 0 < w x y
 unfolding like
 held_points w t x y [] p h = (let z : ⊥ = omega arith in absurd z)
-held_points w t x y (e ∷ m) p h = go (same_t x y e.0 e.1) h (held_points w t x y m p.1)
+held_points w t x y (e ∷ m) p h = go (same_test x y e.0 e.1) h (held_points w t x y m p.1)
   where
     go : {s : Bool} → Test (Same x y e.0 e.1) (Apart x y e.0 e.1) s → 1 ≤ ι s + sum (like x y) m
         → (1 ≤ sum (like x y) m → 0 < w x y) → 0 < w x y

@@ -1,6 +1,6 @@
--- The partners of a cell. In order: x is a partner of c just where 0 < w c x (`partner_test`), and on a graph of n cells
--- n is enough (`partners_more`), and only which pairs have points counts (`partners_like`); the partners ascend, so
--- that none stands twice; a cell with one partner, a cell with two (`Between`).
+-- The partners of a cell. In order: x is a partner of c just where 0 < w c x (`partner_test`), and on a graph of n
+-- cells n is enough (`partners_more`), and only which pairs have points counts (`partners_like`); the partners ascend,
+-- so that none stands twice; a cell with one partner, a cell with two (`Between`).
 use mathlib.Core.Path.{◌≡◌, refl, sym, ap, ap₂, ◌∙◌}
 use mathlib.Core.Logic.{◌⊎◌, inl, inr, ◌≢◌, ⊎_map, ⊎_swap}
 use mathlib.Core.Bool.{Bool, true, false, cond, ◌||◌}

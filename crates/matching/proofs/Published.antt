@@ -14,7 +14,7 @@ use Rattle.matching.specs.Listed.{Entry, Accepted, listed}
 use Rattle.matching.specs.Graph.{Graph, degree, put, dropped}
 use Rattle.matching.specs.Best.{H, walk}
 use Rattle.matching.specs.Steps.{Rule, by_leaf, by_ring, by_chain, Step, leaf, ring, chain, leafed, ringed}
-use Rattle.matching.specs.Steps.{chained}
+use Rattle.matching.specs.Steps.{chained, apply}
 use Rattle.matching.specs.Shapes.{first, last, IsRow, IsLeaf, IsRing, IsChain, IsStep}
 use Rattle.matching.specs.Slip.{AreSteps}
 use Rattle.matching.specs.Published.{Rule23, Rule24, Part, Removed, Rule25, Rule26, Published, AllPublished}
@@ -23,7 +23,7 @@ use Rattle.matching.proofs.Pairing.{present}
 use Rattle.matching.proofs.Entries.{has_listed, listed_none, list_pairing, list_trimmed}
 use Rattle.matching.proofs.Tests.{Test, pass, fail, eq_test, fails}
 use Rattle.matching.proofs.Partners.{partners_more_than_one}
-use Rattle.matching.proofs.Pairs.{Same, same_t}
+use Rattle.matching.proofs.Pairs.{Same, same_test}
 use Rattle.matching.proofs.Members.{mem_apart, mem_head, mem_one, or_left}
 use Rattle.matching.proofs.Sums.{touches_test}
 use Rattle.matching.proofs.Put.{put_else, pair_apart}
@@ -127,8 +127,8 @@ module _ {n : ℕ} {w : Points} (g : Graph n w) where
     unfolding ringed
     ring_removed = record {
       kept = p.low.here;
-      gone = λ c a h k. put_else u z _ _ c a (fails (same_t u z c a) (other c a h k)) ∙ dropped_at inner w c a h;
-      only = λ a k l. put_else u z _ _ z a (fails (same_t u z z a) (end a k))
+      gone = λ c a h k. put_else u z _ _ c a (fails (same_test u z c a) (other c a h k)) ∙ dropped_at inner w c a h;
+      only = λ a k l. put_else u z _ _ z a (fails (same_test u z z a) (end a k))
           ∙ dropped_at inner w z a p.low.here;
     }
       where
@@ -181,12 +181,12 @@ module _ {n : ℕ} {w : Points} (g : Graph n w) where
     chain_removed = record {
       kept = p.low.here;
       gone = λ c a h k.
-          put_else u z _ _ c a (fails (same_t u z c a) (other u c a p.row.first_off h k))
-          ∙ put_else v z _ _ c a (fails (same_t v z c a) (other v c a p.row.last_off h k))
+          put_else u z _ _ c a (fails (same_test u z c a) (other u c a p.row.first_off h k))
+          ∙ put_else v z _ _ c a (fails (same_test v z c a) (other v c a p.row.last_off h k))
           ∙ direct _ c a h;
       only = λ a k l.
-          put_else u z _ _ z a (fails (same_t u z z a) (end u a p.row.first_off k))
-          ∙ put_else v z _ _ z a (fails (same_t v z z a) (end v a p.row.last_off l))
+          put_else u z _ _ z a (fails (same_test u z z a) (end u a p.row.first_off k))
+          ∙ put_else v z _ _ z a (fails (same_test v z z a) (end v a p.row.last_off l))
           ∙ direct _ z a p.low.here;
     }
       where
@@ -203,7 +203,7 @@ module _ {n : ℕ} {w : Points} (g : Graph n w) where
         no_end c a h (inr q) = mem_apart c v inner h p.row.last_off q.0
 
         direct : (k c a : ℕ) → mem c inner ≡ true → put u v k (dropped inner w) c a ≡ 0
-        direct k c a h = put_else u v _ _ c a (fails (same_t u v c a) (no_end c a h)) ∙ dropped_at inner w c a h
+        direct k c a h = put_else u v _ _ c a (fails (same_test u v c a) (no_end c a h)) ∙ dropped_at inner w c a h
 
     chain_published : Fits w (chain u v z inner)
         → Rule26 n w (chained w u v z inner) (H w (u ∷ v ∷ []) path) u v z inner
@@ -240,7 +240,7 @@ module _ {n : ℕ} {w : Points} (g : Graph n w) where
           most_points g p.row (u ∷ v ∷ []) q hq,
         ),
       );
-      others = λ a b h k x y. chain_out g f.0 z f.1 f.2 a b (h, k) (fails (same_t u v a b) (neither a b x y));
+      others = λ a b h k x y. chain_out g f.0 z f.1 f.2 a b (h, k) (fails (same_test u v a b) (neither a b x y));
       offset = λ q hq. sym (most_points g p.row (u ∷ v ∷ []) q hq);
     }
       where
@@ -252,6 +252,12 @@ module _ {n : ℕ} {w : Points} (g : Graph n w) where
         second = h_less w path (u ∷ []) (u ∷ v ∷ []) (λ c h. mem_head c u (v ∷ []) (mem_one c u h))
 
   pub published : (r : Rule) (c : ℕ) (s : Step) → IsStep n w r c s → Published n w s
+  published by_leaf c (ring u z inner) p = elim p [ ]
+  published by_leaf c (chain u v z inner) p = elim p [ ]
+  published by_ring c (leaf u v) p = elim p [ ]
+  published by_ring c (chain u v z inner) p = elim p [ ]
+  published by_chain c (leaf u v) p = elim p [ ]
+  published by_chain c (ring u z inner) p = elim p [ ]
   published by_leaf c (leaf u v) p = leaf_published u v p.1
   published by_ring c (ring u z inner) p = ring_published p.1 (is_fits g by_ring c (ring u z inner) p)
   published by_chain c (chain u v z inner) p = chain_published p.1 (is_fits g by_chain c (chain u v z inner) p)
@@ -261,8 +267,8 @@ pub slip_published : {n : ℕ} {w : Points} → Graph n w → (rs : List (Rule �
 slip_published g [] [] a = g
 slip_published g [] (s ∷ ss) a = absurd a
 slip_published g (r ∷ rs) [] a = absurd a
-slip_published g (r ∷ rs) (s ∷ ss) a = (
+slip_published {w = w} g (r ∷ rs) (s ∷ ss) a = (
   g,
   published g r.0 r.1 s a.0,
-  slip_published (step_graph g s (is_fits g r.0 r.1 s a.0)) rs ss a.1,
+  slip_published {w = apply w s} (step_graph g s (is_fits g r.0 r.1 s a.0)) rs ss a.1,
 )

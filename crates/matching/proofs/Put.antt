@@ -12,7 +12,7 @@ use Rattle.matching.specs.Pairs.{Points, same}
 use Rattle.matching.specs.Graph.{Graph, put, dropped}
 use Rattle.matching.proofs.Tests.{Test, pass, fail, lt_test, passes, fails}
 use Rattle.matching.proofs.Members.{Meets, Away, meets_test}
-use Rattle.matching.proofs.Pairs.{Same, same_t}
+use Rattle.matching.proofs.Pairs.{Same, same_test}
 use Rattle.matching.proofs.Sums.{or_turn, same_turned}
 
 module _ {n : ℕ} {w : Points} (g : Graph n w) where
@@ -40,8 +40,8 @@ pub put_graph : {n : ℕ} {w : Points} (x y k : ℕ) → x ≢ y → x < n → y
 unfolding put
 put_graph {n} {w} x y k apart hx hy g = record {
   turned = λ a b. cc (same_turned x y a b, g.turned a b);
-  loop = λ a. put_else x y k w a a (fails (same_t x y a a) (λ s. apart (same_cells a s))) ∙ g.loop a;
-  top = λ a b h. put_else x y k w a b (fails (same_t x y a b) (low a b h)) ∙ g.top a b h;
+  loop = λ a. put_else x y k w a a (fails (same_test x y a a) (λ s. apart (same_cells a s))) ∙ g.loop a;
+  top = λ a b h. put_else x y k w a b (fails (same_test x y a b) (low a b h)) ∙ g.top a b h;
 }
   where
     same_cells : (a : ℕ) → Same x y a a → x ≡ y

@@ -42,7 +42,7 @@ first_fits g s h = step_fits g (name s).0 (name s).1 s (first_step_is g s h)
 
 replayed : {n : ℕ} {w : Points} → Graph n w → (slip : List (Rule × ℕ)) → Replayed n w slip (replay n w slip)
 replayed g [] = (tt, refl, refl, tt)
-replayed {n} {w} g (r ∷ rs) = go (step_at n w r.0 r.1) refl (λ s f. replayed (step_graph g s f) rs)
+replayed {n} {w} g (r ∷ rs) = go (step_at n w r.0 r.1) refl (λ s f. replayed {w = apply w s} (step_graph g s f) rs)
   where
     go : (o : Option Step) → step_at n w r.0 r.1 ≡ o
         → ((s : Step) → Fits w s → Replayed n (apply w s) rs (replay n (apply w s) rs))
@@ -76,7 +76,7 @@ are_replay g [] (s ∷ ss) p = absurd p
 are_replay g (r ∷ rs) [] p = absurd p
 are_replay {n} {w} g (r ∷ rs) (s ∷ ss) p =
     replay_more n w r s rs ss (step_found g r.0 r.1 s p.0)
-    (are_replay (step_graph g s (is_fits g r.0 r.1 s p.0)) rs ss p.1)
+    (are_replay {w = apply w s} (step_graph g s (is_fits g r.0 r.1 s p.0)) rs ss p.1)
 
 pub replay_is : {n : ℕ} {w : Points} → Graph n w → (slip : List (Rule × ℕ)) (ss : List Step)
     → (replay n w slip ≡ some ss) ↔ AreSteps n w slip ss
@@ -87,7 +87,7 @@ replay_stops : {n : ℕ} {w : Points} → Graph n w → (slip : List (Rule × �
     → SomeStepNot n w slip
 replay_stops g [] h = (let z : ◌≡◌ {A = ℕ} 0 1 = cc in absurd (omega arith))
 replay_stops {n} {w} g (r ∷ rs) h =
-    go (step_at n w r.0 r.1) refl h (λ s f. replay_stops (step_graph g s f) rs)
+    go (step_at n w r.0 r.1) refl h (λ s f. replay_stops {w = apply w s} (step_graph g s f) rs)
   where
     go : (o : Option Step) → step_at n w r.0 r.1 ≡ o
         → ◌≡◌ {A = Option (List Step)} (elim o [
@@ -109,9 +109,9 @@ stops_replay : {n : ℕ} {w : Points} → Graph n w → (slip : List (Rule × �
     → replay n w slip ≡ none
 stops_replay g [] p = absurd p
 stops_replay g (r ∷ rs) (inl nil) = rw ((step_none g r.0 r.1).1 nil, replay) refl
-stops_replay g (r ∷ rs) (inr p) =
+stops_replay {w = w} g (r ∷ rs) (inr p) =
     rw (step_found g r.0 r.1 p.0 p.1, replay)
-    (rw (stops_replay (step_graph g p.0 (is_fits g r.0 r.1 p.0 p.1)) rs p.2))
+    (rw (stops_replay {w = apply w p.0} (step_graph g p.0 (is_fits g r.0 r.1 p.0 p.1)) rs p.2))
 
 pub replay_not : {n : ℕ} {w : Points} → Graph n w → (slip : List (Rule × ℕ))
     → (replay n w slip ≡ none) ↔ SomeStepNot n w slip
@@ -126,7 +126,7 @@ pub slip_count : {n : ℕ} {w : Points} → Graph n w → (ss : List Step) → S
     → length ss + cells_left n (left w ss) ≤ cells_left n w
 slip_count g [] st = omega arith
 slip_count {n} {w} g (s ∷ ss) st =
-    omega (arith, slip_count (step_graph g s st.0) ss st.1, step_fewer g s st.0)
+    omega (arith, slip_count {w = apply w s} (step_graph g s st.0) ss st.1, step_fewer g s st.0)
 
 pub reduce_replay : (k : ℕ) {n : ℕ} {w : Points} → Graph n w
     → replay n w (map name (reduce k n w)) ≡ some (reduce k n w)

@@ -81,11 +81,11 @@ module _ {n : ℕ} {w : Points} (g : Graph n w) where
       es = (p, c) ∷ walk c cs v
 
       at : (p ≡ b) ⊎ (first v cs ≡ b) → In es c b
-      at (inl e) = rw (← e) (in_turned es p c (in_head p c (walk c cs v)))
+      at (inl e) = subst (In es c) e (in_turned es p c (in_head p c (walk c cs v)))
       at (inr e) = let k : In (walk c cs v) c b = rw (← e) (in_first c cs v) in omega arith
 
       go : (c ≡ a) ⊎ (mem a cs ≡ true) → (mem a cs ≡ true → 0 < w a b → In (walk c cs v) a b) → In es a b
-      go (inl e) i = rw (← e) (at (between_only g r.0 b (rw e h)))
+      go (inl e) i = subst (λ x. In es x b) e (at (between_only g r.0 b (rw e h)))
       go (inr q) i = let k = i q h in omega arith
 
   -- a cell outside that a cell of the run pairs with is one of its ends

@@ -15,7 +15,7 @@ use Rattle.matching.specs.Graph.{Graph}
 use Rattle.matching.specs.Best.{H, best, tie, walk}
 use Rattle.matching.proofs.Tests.{Test, pass, fail, is_test, eq_test, or_test, fails}
 use Rattle.matching.proofs.Members.{Away, no_mem, mem_apart, mem_more}
-use Rattle.matching.proofs.Pairs.{Same, same_t}
+use Rattle.matching.proofs.Pairs.{Same, same_test}
 use Rattle.matching.proofs.Sums.{Turned, sum_append, sum_eq, sum_none, each_append, each_map, hit_none}
 use Rattle.matching.proofs.Sums.{hit_turned}
 use Rattle.matching.proofs.Best.{best_h, best_each, best_off, best_once}
@@ -34,7 +34,7 @@ away_off cs m p c h = sum_none (hit c) (λ a b q. hit_none c a b (past a q.0) (p
 
 -- None is the pair x, z, where z is one of the cells.
 pub away_pair : (x z : ℕ) (cs : List ℕ) → mem z cs ≡ true → (a b : ℕ) → Away cs a b → same x z a b ≡ false
-away_pair x z cs h a b p = fails (same_t x z a b) clash
+away_pair x z cs h a b p = fails (same_test x z a b) clash
   where
     clash : Same x z a b → ⊥
     clash (inl e) = mem_apart z b cs h p.1 (sym e.1)

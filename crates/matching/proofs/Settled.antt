@@ -21,7 +21,7 @@ use Rattle.matching.specs.Shapes.{IsRow, IsRing, IsChain, IsStep, first, last}
 use Rattle.matching.specs.Frontier.{Proper}
 use Rattle.matching.proofs.Tests.{Test, pass, fail, is_test, eq_test, lt_test, fails}
 use Rattle.matching.proofs.Members.{Away, no_mem, mem_on, mem_head, mem_more, mem_apart, clash}
-use Rattle.matching.proofs.Pairs.{Same, same_t}
+use Rattle.matching.proofs.Pairs.{Same, same_test}
 use Rattle.matching.proofs.Put.{put_else, dropped_out, dropped_held, dropped_most}
 use Rattle.matching.proofs.Partners.{Ascending, Between, between_only, partner_of, partners_ascending}
 use Rattle.matching.proofs.Partners.{partners_few, partners_more_than_one}
@@ -191,7 +191,8 @@ module _ {n : ℕ} {w w' : Points} (g : Graph n w) (g' : Graph n w') (s : Settle
       (s.still x p (omega (arith, l.0, g'.turned x p)) (t x h) (low x h) d)
       (still_on x xs v (low x h) l.1 (λ y m. t y (mem_on y x xs m)) (λ y m. low y (mem_on y x xs m)))
 
-  stills : (u : ℕ) (cs : List ℕ) (v : ℕ) → 1 < length cs → Each (λ a b. 0 < w' a b) (walk u cs v) → Twos n w' cs → Low n w cs
+  stills : (u : ℕ) (cs : List ℕ) (v : ℕ) → 1 < length cs → Each (λ a b. 0 < w' a b) (walk u cs v) → Twos n w' cs
+      → Low n w cs
       → (c : ℕ) → mem c cs ≡ true → Still n w w' c
   stills u [] v k l t low = absurd (omega arith)
   stills u (x ∷ []) v k l t low = absurd (omega arith)
@@ -249,6 +250,10 @@ module _ {n : ℕ} {w w' : Points} (g : Graph n w) (g' : Graph n w') (s : Settle
   -- a ring or a chain after the step that has no cell inside that had more than two pairs stood there before
   pub kept_step : (r : Rule) (c : ℕ) (t : Step) → r ≢ by_leaf → IsStep n w' r c t → Proper n w' t
       → Low n w (inside t) → IsStep n w r c t × Proper n w t
+  kept_step by_ring c (leaf u v) d p o low = elim p [ ]
+  kept_step by_ring c (chain u v z inner) d p o low = elim p [ ]
+  kept_step by_chain c (leaf u v) d p o low = elim p [ ]
+  kept_step by_chain c (ring u z inner) d p o low = elim p [ ]
   kept_step by_leaf c t d p o low = absurd (d refl)
   kept_step by_ring c (ring u z inner) d p o low = ((p.0, kept_ring p.1 low), tt)
   kept_step by_chain c (chain u v z inner) d p o low =
@@ -276,14 +281,14 @@ leafed_most w u v a b = go (touches v a b) (touches u a b)
 
 put_held : (x y k : ℕ) (w : Points) (a b : ℕ) → 0 < put x y k w a b → Same x y a b ⊎ (0 < w a b)
 unfolding put
-put_held x y k w a b = go (same_t x y a b)
+put_held x y k w a b = go (same_test x y a b)
   where
     go : {N : Type 0} {t : Bool} → Test (Same x y a b) N t → 0 < cond t k (w a b) → Same x y a b ⊎ (0 < w a b)
     go (pass p) h = inl p
     go (fail o) h = inr h
 
 put_off : (x y k : ℕ) (w : Points) (c : ℕ) → c ≢ x → c ≢ y → (z : ℕ) → put x y k w c z ≡ w c z
-put_off x y k w c nx ny z = put_else x y k w c z (fails (same_t x y c z) off)
+put_off x y k w c nx ny z = put_else x y k w c z (fails (same_test x y c z) off)
   where
     off : Same x y c z → ⊥
     off (inl q) = nx q.0
@@ -505,6 +510,12 @@ module _ {n : ℕ} {w : Points} (g : Graph n w) where
           omega (arith, degree_kept n w (chained w u v z inner) a (else_same a o nu nv))
 
   pub step_settled : (r : Rule) (c : ℕ) (s : Step) → IsStep n w r c s → Proper n w s → Settled n w (apply w s)
+  step_settled by_leaf c (ring u z inner) p o = elim p [ ]
+  step_settled by_leaf c (chain u v z inner) p o = elim p [ ]
+  step_settled by_ring c (leaf u v) p o = elim p [ ]
+  step_settled by_ring c (chain u v z inner) p o = elim p [ ]
+  step_settled by_chain c (leaf u v) p o = elim p [ ]
+  step_settled by_chain c (ring u z inner) p o = elim p [ ]
   step_settled by_leaf c (leaf u v) p o = leaf_settled u v
   step_settled by_ring c (ring u z inner) p o = ring_settled p.1
   step_settled by_chain c (chain u v z inner) p o = chain_settled p.1 o.0 o.1

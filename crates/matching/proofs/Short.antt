@@ -86,7 +86,8 @@ module _ (w : Points) where
       e : Entry
       e = (a, b, w a b)
 
-      go : {t : Bool} → Test (b ≡ n) (b ≢ n) t → (b < n → Has (short_at w a n) e) → Has (short_at w a n ++ entry_at a n) e
+      go : {t : Bool} → Test (b ≡ n) (b ≢ n) t → (b < n → Has (short_at w a n) e)
+          → Has (short_at w a n ++ entry_at a n) e
       go (pass q) i =
           has_right (short_at w a n) (entry_at a n) e (rw (← q, lt-ltb a b l, lt-ltb 0 (w a b) h) (inl refl))
       go (fail m) i = has_left (short_at w a n) (entry_at a n) e (i (omega arith))

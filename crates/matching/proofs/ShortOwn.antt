@@ -1,5 +1,6 @@
--- The short list of a list's own graph: of an accepted list without zero entries it is the list itself (`short_list_is`),
--- of any accepted list its entries above zero (`short_own`), so it is no longer (`short_length`). Assumes nothing.
+-- The short list of a list's own graph: of an accepted list without zero entries it is the list itself
+-- (`short_list_is`), of any accepted list its entries above zero (`short_own`), so it is no longer (`short_length`).
+-- Assumes nothing.
 use mathlib.Core.Path.{◌≡◌, refl, sym, ap, subst, ◌∙◌, fun_ext}
 use mathlib.Core.Logic.{inl, inr}
 use mathlib.Core.Bool.{Bool, true, false, cond}

@@ -1,9 +1,9 @@
 -- The solution as its file has it. In order: what is tried keeps what each trial has (`tries_keep`); the cells of a
 -- set's heaviest pairing are in the set (`solve_each_is`), and its pairs are in file order where the set ascends
--- (`solve_in_order`); which cells have pairs (`with_test`), and that they ascend; so the
--- solution is in file order (`solution_filed`), its cells below n (`solution_cells`), heaviest (`solution_heaviest`), and
--- of those the first (`solution_first`). Assumes nothing.
-use mathlib.Core.Path.{◌≡◌, ap, ◌∙◌}
+-- (`solve_in_order`); which cells have pairs (`with_test`), and that they ascend; so the solution is in file order
+-- (`solution_filed`), its cells below n (`solution_cells`), heaviest (`solution_heaviest`), and of those the first
+-- (`solution_first`). Assumes nothing.
+use mathlib.Core.Path.{◌≡◌, ap}
 use mathlib.Core.Bool.{Bool, true, false, not, cond, ◌&&◌}
 use mathlib.Core.List.{List, [], ◌∷◌}
 use Prim.Native.Nat.{ℕ, zero, suc, ◌+◌, ◌≤◌, ◌<◌}
@@ -69,7 +69,8 @@ module _ (n : ℕ) (w : Points) where
   -- which they are, and in which order
   pub with_test : (c : ℕ) → Test ((c < n) × (0 < degree n w c)) (c < n → degree n w c ≤ 0) (mem c (with_pairs n w))
   with_test c =
-      map_test (λ h. (h.0, holds (lt_test 0 (degree n w c)) h.1)) (λ f l. holds (not_test (lt_test 0 (degree n w c))) (ap not (f l)))
+      map_test (λ h. (h.0, holds (lt_test 0 (degree n w c)) h.1))
+      (λ f l. holds (not_test (lt_test 0 (degree n w c))) (ap not (f l)))
       (where_test (λ x. ltb 0 (degree n w x)) n c)
 
   pub with_cells : All (λ x. x < n) (with_pairs n w)

@@ -3,7 +3,7 @@
 -- (`best_without`); the pairs of the cells that pass a test (`keep_chosen`); the law. Assumes nothing.
 use mathlib.Core.Path.{◌≡◌, refl, sym, ap, ap₂, ◌∙◌}
 use mathlib.Core.Logic.{◌⊎◌, inl, inr, ◌≢◌}
-use mathlib.Core.Bool.{Bool, true, false, not, cond, ◌&&◌, ◌||◌}
+use mathlib.Core.Bool.{Bool, true, false, not, cond, ◌&&◌}
 use mathlib.Core.List.{List, [], ◌∷◌, ◌++◌, append_assoc, append-nil}
 use Prim.Native.Nat.{ℕ, zero, suc, ◌+◌, ◌≤◌, ◌<◌}
 use native.Mathlib.Omega.{arith}
@@ -14,7 +14,8 @@ use Rattle.matching.specs.Lists.{mem, distinct, All, Ascends}
 use Rattle.matching.specs.Pairs.{Pair, Points, sum, Each, keep}
 use Rattle.matching.specs.Best.{barred, H, best}
 use Rattle.matching.specs.Solve.{pairs_with, pairs_among, solved, less, tries, solve}
-use Rattle.matching.proofs.Tests.{Test, pass, fail, is_test, eq_test, lt_test, not_test, and_test, map_test, holds, passes, fails}
+use Rattle.matching.proofs.Tests.{Test, pass, fail, is_test, eq_test, lt_test, not_test, and_test, map_test, holds}
+use Rattle.matching.proofs.Tests.{passes, fails}
 use Rattle.matching.proofs.Members.{clash, or_left, or_right, no_mem, mem_on, mem_head, mem_apart, mem_past}
 use Rattle.matching.proofs.Alls.{all_map, all_members}
 use Rattle.matching.proofs.Sums.{keep_append, each_append}
@@ -200,7 +201,8 @@ module _ (w : Points) where
     unfolding pairs_among
     keep_chosen [] = refl
     keep_chosen (c ∷ cs) =
-        keep_append between (pairs_with w c cs) (pairs_among w cs) ∙ ap₂ (λ x y. x ++ y) (keep_with c cs) (keep_chosen cs)
+        keep_append between (pairs_with w c cs) (pairs_among w cs)
+        ∙ ap₂ (λ x y. x ++ y) (keep_with c cs) (keep_chosen cs)
         ∙ go (t c)
       where
         go : (s : Bool) → cond s (pairs_with w c (chosen t cs)) [] ++ pairs_among w (chosen t cs)

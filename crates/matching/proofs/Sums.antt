@@ -12,7 +12,7 @@ use borrow.Author.Tests.{eq-eqb, ne_eqb}
 use Rattle.matching.specs.Pairs.{Pair, Points, ι, sum, Each, keep, touches, hit, same, like, without}
 use Rattle.matching.specs.Pairing.{Once}
 use Rattle.matching.proofs.Tests.{Test, pass, fail, is_test, eq_test, lt_test, not_test, or_test, holds, fails}
-use Rattle.matching.proofs.Pairs.{Same, Apart, same_t}
+use Rattle.matching.proofs.Pairs.{Same, Apart, same_test}
 
 -- ---- arithmetic of counts
 
@@ -186,7 +186,7 @@ like_self x y = rw (eq-eqb x x refl, eq-eqb y y refl)
 
 pub zero_like : (x y a b : ℕ) → (Same x y a b → ⊥) → like x y a b ≡ 0
 unfolding like
-zero_like x y a b n = ap ι (fails (same_t x y a b) n)
+zero_like x y a b n = ap ι (fails (same_test x y a b) n)
 
 pub like_flip : (x y a b : ℕ) → like x y a b ≡ like y x a b
 unfolding like
@@ -194,7 +194,7 @@ like_flip x y a b = ap ι (or_turn (eqb a x && eqb b y) (eqb a y && eqb b x))
 
 pub like_same : (x y a b : ℕ) → 1 ≤ like x y a b → Same x y a b
 unfolding like
-like_same x y a b = go (same_t x y a b)
+like_same x y a b = go (same_test x y a b)
   where
     go : {t : Bool} → Test (Same x y a b) (Apart x y a b) t → 1 ≤ ι t → Same x y a b
     go (pass p) h = p
@@ -204,7 +204,7 @@ pub sum_apart : (f : Points) → ((a b : ℕ) → f a b ≡ f b a) → (x y : �
     → sum f m ≡ f x y * sum (like x y) m + sum f (without x y m)
 unfolding like
 sum_apart f s x y [] = omega arith
-sum_apart f s x y (e ∷ m) = go (same_t x y e.0 e.1) (sum_apart f s x y m)
+sum_apart f s x y (e ∷ m) = go (same_test x y e.0 e.1) (sum_apart f s x y m)
   where
     go : {t : Bool} → Test (Same x y e.0 e.1) (Apart x y e.0 e.1) t
         → sum f m ≡ f x y * sum (like x y) m + sum f (without x y m)
@@ -296,7 +296,8 @@ like_hit x y m c h =
 pub without_in : (x y : ℕ) (m es : List Pair) → Each (In ((x, y) ∷ es)) m → Each (In es) (without x y m)
 unfolding like
 without_in x y m es p =
-    each_keep (λ a b. not (same x y a b)) (λ a b h e. omega (arith, ap ι (holds (not_test (is_test (same x y a b))) e))) m p
+    each_keep (λ a b. not (same x y a b)) (λ a b h e. omega
+    (arith, ap ι (holds (not_test (is_test (same x y a b))) e))) m p
 
 pub turned_same : (f : Points) → Turned f → (x y a b : ℕ) → Same x y a b → f a b ≡ f x y
 turned_same f t x y a b (inl p) = ap₂ f p.0 p.1

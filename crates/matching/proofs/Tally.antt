@@ -69,7 +69,8 @@ cells_gone {n} {w} g w' keep gone lost =
       arith,
       cells_sum n w n,
       cells_sum n w' n,
-      sum_to_le n (λ i. ι (gone i) + alive n w' i) (alive n w) (λ i. at i (is_test (gone i)) (lt_test 0 (degree n w' i))),
+      sum_to_le n (λ i. ι (gone i) + alive n w' i) (alive n w)
+          (λ i. at i (is_test (gone i)) (lt_test 0 (degree n w' i))),
       sum_to_add n (λ i. ι (gone i)) (alive n w'),
     )
   where

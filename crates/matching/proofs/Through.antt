@@ -86,7 +86,8 @@ module _ {n : ℕ} {w : Points} (g : Graph n w) where
     -- the row of a step through x stays on the ring
     on_round : {u v : ℕ} {inner : List ℕ} → IsRow n w u inner v → mem x inner ≡ true
         → (c : ℕ) → mem c inner ≡ true → Round x cells c
-    on_round {u} {v} {inner} i h = spread g (Round x cells) u inner v (is_run g i) (λ c d k. round r two c d) x h (inr refl)
+    on_round {u} {v} {inner} i h = spread g (Round x cells) u inner v (is_run g i) (λ c d k. round r two c d) x h
+        (inr refl)
 
     end_round : {u v : ℕ} {inner : List ℕ} → IsRow n w u inner v → mem x inner ≡ true → Round x cells u
     end_round {u} {v} {inner} i h =
@@ -95,9 +96,13 @@ module _ {n : ℕ} {w : Points} (g : Graph n w) where
 
     -- there is no chain through x, and the ring is named by the lowest cell but one
     pub through_no_chain : (d : ℕ) (t : Step) → IsStep n w by_chain d t → mem x (inside t) ≡ true → ⊥
+    through_no_chain d (leaf u v) p h = elim p [ ]
+    through_no_chain d (ring u z inner) p h = elim p [ ]
     through_no_chain d (chain u v z inner) p h = p.1.first_end (round_two r two u (end_round p.1.row h))
 
     pub through_ring : (d : ℕ) (t : Step) → IsStep n w by_ring d t → mem x (inside t) ≡ true → d ≡ next
+    through_ring d (leaf u v) p h = elim p [ ]
+    through_ring d (chain u v z inner) p h = elim p [ ]
     through_ring d (ring u z inner) p h = sym p.0 ∙ same
       where
         i : IsRow n w u inner u
@@ -124,7 +129,8 @@ module _ {n : ℕ} {w : Points} (g : Graph n w) where
         same = go (least u (end_round i h)) (least z (on_round i h z p.1.low.here)) (above lo (back lo lo_on))
             (above next (back next next_on))
           where
-            go : (u ≡ lo) ⊎ (next ≤ u) → (z ≡ lo) ⊎ (next ≤ z) → (z ≤ lo) ⊎ (lo ≡ u) → (z ≤ next) ⊎ (next ≡ u) → z ≡ next
+            go : (u ≡ lo) ⊎ (next ≤ u) → (z ≡ lo) ⊎ (next ≤ z) → (z ≤ lo) ⊎ (lo ≡ u) → (z ≤ next) ⊎ (next ≡ u)
+                → z ≡ next
             go (inl a) (inl b) c d = absurd (omega (arith, below, up))
             go (inl a) (inr b) c (inl d) = omega (arith, below, up)
             go (inl a) (inr b) c (inr d) = absurd (omega (arith, below, up))
@@ -146,7 +152,8 @@ pub record WaysOut (n : ℕ) (w : Points) (x : ℕ) (cells : List ℕ) (a : ℕ)
   pub other_end : degree n w b ≢ 2
 
 -- two rows read from x
-pub ways_read : {n : ℕ} {w : Points} {x f h : ℕ} {r q : ReadRow} → Between n w f x h → Read n w x x f r → Read n w x x h q
+pub ways_read : {n : ℕ} {w : Points} {x f h : ℕ} {r q : ReadRow} → Between n w f x h → Read n w x x f r
+    → Read n w x x h q
     → degree n w r.1 ≢ 2 → degree n w q.1 ≢ 2 → WaysOut n w x r.0 r.1 q.0 q.1
 ways_read b i k da db = record {
   mid = rw (i.starts, k.starts) b;
@@ -250,6 +257,12 @@ module _ {n : ℕ} {w : Points} (g : Graph n w) {x a b : ℕ} {cells more : List
         omega (arith, l.least m (ways_on i du dv h m here), least z (on_ways i h z l.here))
 
     pub through_ways : (q : Rule) (d : ℕ) (t : Step) → IsStep n w q d t → mem x (inside t) ≡ true → d ≡ m
+    through_ways by_leaf d (ring u z inner) p h = elim p [ ]
+    through_ways by_leaf d (chain u v z inner) p h = elim p [ ]
+    through_ways by_ring d (leaf u v) p h = elim p [ ]
+    through_ways by_ring d (chain u v z inner) p h = elim p [ ]
+    through_ways by_chain d (leaf u v) p h = elim p [ ]
+    through_ways by_chain d (ring u z inner) p h = elim p [ ]
     through_ways by_leaf d (leaf u v) p h = no_mem x h
     through_ways by_ring d (ring u z inner) p h = go (eq_test (degree n w u) 2)
       where
@@ -261,13 +274,16 @@ module _ {n : ℕ} {w : Points} (g : Graph n w) {x a b : ℕ} {cells more : List
 
   -- it is a ring where the ways end at one cell, a chain where they do not
   pub through_same_end : (d : ℕ) (t : Step) → IsStep n w by_ring d t → mem x (inside t) ≡ true → a ≡ b
+  through_same_end d (leaf u v) p h = elim p [ ]
+  through_same_end d (chain u v z inner) p h = elim p [ ]
   through_same_end d (ring u z inner) p h = go (eq_test (degree n w u) 2)
     where
       i : IsRow n w u inner u
       i = p.1.row
 
       -- the cell behind a way, which starts inside the ring
-      behind : degree n w u ≢ 2 → (p : ℕ) (cs : List ℕ) (e : ℕ) → Run n w p cs e → 0 < w p (first e cs) → degree n w e ≢ 2
+      behind : degree n w u ≢ 2 → (p : ℕ) (cs : List ℕ) (e : ℕ) → Run n w p cs e → 0 < w p (first e cs)
+          → degree n w e ≢ 2
           → mem p inner ≡ true → u ≡ e
       behind du p [] e r l far k =
           ⊎_elim (λ y. y.0) (λ y. y.0) (run_outer g u inner u (is_run g i) p e k (off_row g i e far) l)
@@ -286,6 +302,8 @@ module _ {n : ℕ} {w : Points} (g : Graph n w) {x a b : ℕ} {cells more : List
           ∙ behind d2 x more b o.other o.mid.on o.other_end h
 
   pub through_two_ends : (d : ℕ) (t : Step) → IsStep n w by_chain d t → mem x (inside t) ≡ true → a ≢ b
+  through_two_ends d (leaf u v) p h q = elim p [ ]
+  through_two_ends d (ring u z inner) p h q = elim p [ ]
   through_two_ends d (chain u v z inner) p h q =
       let i = p.1.row in
       let eu = end_way (first v inner) u (omega (arith, way_out g i, g.turned u (first v inner)))

@@ -152,7 +152,8 @@ Off x y a b = same x y a b ≡ false
 -- A pair that is not held is nowhere.
 nowhere : (x y : ℕ) (m : List Pair) → held x y m ≡ false → Each (Off x y) m
 unfolding like
-nowhere x y m h = each_map (λ a b q. go (same x y a b) q) m (each_zero (like x y) m (none (lt_test 0 (sum (like x y) m)) h))
+nowhere x y m h = each_map (λ a b q. go (same x y a b) q) m
+    (each_zero (like x y) m (none (lt_test 0 (sum (like x y) m)) h))
   where
     none : {t : Bool} → Test (0 < sum (like x y) m) (sum (like x y) m ≤ 0) t → t ≡ false → sum (like x y) m ≡ 0
     none (pass p) e = (let z : ◌≡◌ {A = ℕ} 0 1 = cc in omega arith)
@@ -354,6 +355,12 @@ module _ {n : ℕ} {w : Points} (g : Graph n w) {u v z : ℕ} {inner : List ℕ}
 -- What the way back of a step that is allowed makes of a pairing.
 pub step_undone : {n : ℕ} {w : Points} → Graph n w → (r : Rule) (c : ℕ) (s : Step) → IsStep n w r c s
     → (m : List Pair) → Once m → Undone w s m (undo w s m)
+step_undone {n = n} {w = w} g by_leaf c (ring u z inner) p m o = elim p [ ]
+step_undone {n = n} {w = w} g by_leaf c (chain u v z inner) p m o = elim p [ ]
+step_undone {n = n} {w = w} g by_ring c (leaf u v) p m o = elim p [ ]
+step_undone {n = n} {w = w} g by_ring c (chain u v z inner) p m o = elim p [ ]
+step_undone {n = n} {w = w} g by_chain c (leaf u v) p m o = elim p [ ]
+step_undone {n = n} {w = w} g by_chain c (ring u z inner) p m o = elim p [ ]
 step_undone {w = w} g by_leaf c (leaf u v) p m o = leaf_undone w u v m
 step_undone g by_ring c (ring u z inner) p m o = ring_undone g p.1 m
 step_undone g by_chain c (chain u v z inner) p m o = chain_undone g p.1 m o
@@ -366,7 +373,7 @@ slip_lifts g [] (s ∷ ss) a m p = absurd a
 slip_lifts g (r ∷ rs) [] a m p = absurd a
 slip_lifts {w = w} g (r ∷ rs) (s ∷ ss) a m p =
     let fits = is_fits g r.0 r.1 s a.0 in
-    let mid = slip_lifts (step_graph g s fits) rs ss a.1 m p in (
+    let mid = slip_lifts {w = apply w s} (step_graph g s fits) rs ss a.1 m p in (
       (step_lifted g s fits (lift (apply w s) ss m) mid.0).0,
       (lift (apply w s) ss m, mid.1, step_undone g r.0 r.1 s a.0 (lift (apply w s) ss m) mid.0.once),
     )

@@ -1,12 +1,12 @@
--- Ascending numbers. In order: the cells below n that pass a test are those (`where_test`), below n, and ascend; numbers by
--- their places (`rises_place`); ascending numbers with the same members are the same list (`same_members`), and a list
--- that has all members of another is the same or longer (`members_more`); whether some member passes (`any_test`). Assumes
--- nothing.
+-- Ascending numbers. In order: the cells below n that pass a test are those (`where_test`), below n, and ascend;
+-- numbers by their places (`rises_place`); ascending numbers with the same members are the same list (`same_members`),
+-- and a list that has all members of another is the same or longer (`members_more`); whether some member passes
+-- (`any_test`). Assumes nothing.
 use mathlib.Core.Path.{◌≡◌, refl, sym, ap, ◌∙◌}
 use mathlib.Core.Logic.{◌⊎◌, inl, inr, ◌≢◌, ⊎_map}
 use mathlib.Core.Bool.{Bool, true, false, cond, ◌||◌}
 use mathlib.Core.List.{List, [], ◌∷◌, ◌++◌}
-use Prim.Native.Nat.{ℕ, zero, suc, ◌+◌, ◌≤◌, ◌<◌}
+use Prim.Native.Nat.{ℕ, zero, suc, ◌≤◌, ◌<◌}
 use native.Mathlib.Omega.{arith}
 use lib.ListN.{length, get_or, length-append}
 use Rattle.matching.specs.Lists.{any, mem, distinct, All, Ascends}

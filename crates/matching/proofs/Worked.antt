@@ -16,7 +16,8 @@ use Rattle.matching.proofs.Alls.{map_agree}
 
 -- the test
 pub table : map (λ (r : WorkedRow). outcome r.0) rows ≡ map (λ (r : WorkedRow). r.1) rows
-unfolding rows outcome is_pairing joined listed partners put dropped H best tie leafed ringed chained step_at first_step_of
+unfolding rows outcome is_pairing joined listed partners put dropped H best tie leafed ringed chained step_at
+    first_step_of
     hit like cells_where reached largest
 table = refl
 

@@ -1,6 +1,7 @@
 -- Finding steps. A row of cells of degree two is read by walking over it; the number of cells is fuel enough (law:
 -- proofs/Find).
-use Rattle.std.specs.Prelude.{Bool, true, false, not, cond, ◌&&◌, ◌||◌, List, [], ◌∷◌, ℕ, zero, suc, min, eqb, ltb, length}
+use Rattle.std.specs.Prelude.{Bool, true, false, not, cond, ◌&&◌, ◌||◌, List, [], ◌∷◌, ℕ, zero, suc, min, eqb, ltb}
+use Rattle.std.specs.Prelude.{length}
 use Rattle.std.proofs.Math.Option.{Option, some, none}
 use Rattle.matching.specs.Lists.{mem}
 use Rattle.matching.specs.Pairs.{Points}
@@ -77,4 +78,5 @@ step_at n w by_chain z = search (λ u. search (λ f. chain_of n w z u f (row n (
 -- step likewise.'
 unfoldable pub first_step_of : ℕ → Points → Option Step
 first_step_of n w =
-    or_else (search (step_at n w by_leaf) n) (or_else (search (step_at n w by_ring) n) (search (step_at n w by_chain) n))
+    or_else (search (step_at n w by_leaf) n) (or_else (search (step_at n w by_ring) n)
+    (search (step_at n w by_chain) n))

@@ -1,9 +1,10 @@
--- Which cells a step can make name another step. Inner contracts cite this; the law is `sought_after` (proofs/Frontier).
+-- Which cells a step can make name another step. For inner contracts; the law is `sought_after`
+-- (proofs/Frontier).
 use Rattle.std.specs.Prelude.{◌≡◌, ◌⊎◌, true, ℕ, ◌≤◌, ◌<◌}
 use Rattle.matching.specs.Lists.{mem}
 use Rattle.matching.specs.Pairs.{Points}
 use Rattle.matching.specs.Graph.{degree}
-use Rattle.matching.specs.Steps.{Rule, by_leaf, by_ring, by_chain, Step, leaf, ring, chain, apply}
+use Rattle.matching.specs.Steps.{Rule, by_leaf, by_ring, by_chain, Step, leaf, ring, chain}
 use Rattle.matching.specs.Shapes.{IsStep}
 
 -- The ends of a chain have more than two pairs. Where there is no leaf every chain is such.

@@ -1,7 +1,7 @@
 -- Pairings (matchings) of lists of weighted pairs and the reduction steps, in the words of the product's description.
 -- In reading order: pairs and pairings; lists and graphs; the best of some pairs; steps, and the way back by ties;
--- where a step stands, and finding it; slips, where each pair came from, and what is demanded of them; solving; groups; worked
--- lists.
+-- where a step stands, and finding it; slips, where each pair came from, and what is demanded of them; solving; groups;
+-- worked lists.
 pub mod Lists
 pub mod Pairs
 pub mod Pairing

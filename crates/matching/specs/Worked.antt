@@ -53,8 +53,8 @@ lifted_by n l m ss =
       points = points l up;
     }
 
--- Refusal 8 where a step is not allowed, 10 where the pairing is not one of the graph left, or of the list's entries, 11
--- where some group has more than 12 cells.
+-- Refusal 8 where a step is not allowed, 10 where the pairing is not one of the graph left, or of the list's entries,
+-- 11 where some group has more than 12 cells.
 unfoldable pub outcome : Case → Outcome
 outcome (lifting n l s m) =
     elim (steps_of n l s) [

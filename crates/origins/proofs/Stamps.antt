@@ -57,7 +57,8 @@ module _ {o : cases.Origin} where
 pub of_none : {stamp : ℕ} → stamp ≡ 0 → from_short ≡ origin_in stamp
 of_none e = rw e
 
-pub of_some : {stamp : ℕ} {r : Rule} → stamp ≢ 0 → r ≡ rule_named (stamp % 8) → from_step (stamp / 8) r ≡ origin_in stamp
+pub of_some : {stamp : ℕ} {r : Rule} → stamp ≢ 0 → r ≡ rule_named (stamp % 8)
+    → from_step (stamp / 8) r ≡ origin_in stamp
 of_some {stamp} n e = rw (ne_eqb stamp 0 n, e)
 
 pub record_stamp : (o : Origin) (a b : ℕ) {k : ℕ} → k ≡ stamp_for o

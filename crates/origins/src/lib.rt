@@ -1,5 +1,7 @@
 // Inner, for partners and undoing: where a pair came from, its stamp in the table of partners, and its record in an
 // origin list. See specs/Stamps.
+#![tactic(auto)]
+
 ghost use Rattle.std.specs.Prelude.{◌≡◌, ◌≤◌, ◌<◌};
 ghost use Rattle.matching.specs.Origin.{number_in};
 ghost use Rattle.cellfile.specs.Files.{number_of, rule_named};
@@ -9,7 +11,7 @@ ghost use Rattle.origins.specs.Stamps.{as_rule, as_origin, stamp_for, origin_in}
 use cellfile::format::{CHAIN, LEAF, RING};
 
 // The rule of a step.
-#[derive(Drop)]
+#[derive(Clone, Copy)]
 pub enum Rule {
     Leaf,
     Ring,
@@ -17,14 +19,14 @@ pub enum Rule {
 }
 
 // From the short list, or from a step with its rule; steps count from 1.
-#[derive(Drop)]
+#[derive(Clone, Copy)]
 pub enum Origin {
     Short,
     Step { number: u64, rule: Rule },
 }
 
 // A pair and where it came from.
-#[derive(Drop)]
+#[derive(Clone, Copy)]
 pub struct PairOrigin {
     pub a: u64,
     pub b: u64,

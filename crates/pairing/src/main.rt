@@ -1,3 +1,5 @@
+#![tactic(auto)]
+
 // Reads a store list from standard input and prints its pairing. See crate report for what it prints.
 fn main() {
     let mut list = [0u8; 20485];

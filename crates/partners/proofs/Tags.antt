@@ -93,7 +93,8 @@ module _ (w2 : List ℕ) (o : Origins) (m : List Pair) (h : Mates w2 o m) (c : �
                 omega (arith, tag_held b k, (like_within n c b m within k).1, stamp_few (o c b) (few c b))
 
       -- the record of the pair of a cell that is not free
-      pub tag_record : 0 < partner c m → record_in c (get_or w2 (at_table + c) 0) ≡ word_of_origin o (c, partner c m - 1)
+      pub tag_record : 0 < partner c m
+          → record_in c (get_or w2 (at_table + c) 0) ≡ word_of_origin o (c, partner c m - 1)
       tag_record p = go (partner_view c m)
         where
           go : (sum (hit c) m ≡ 0) ⊎ ((b : ℕ) × (1 ≤ sum (like c b) m))

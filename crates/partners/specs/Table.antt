@@ -1,5 +1,6 @@
 -- A pairing into the table of partners and out of it. Inner contracts cite this.
-use Rattle.std.specs.Prelude.{◌≡◌, ◌≢◌, Bool, false, List, map, ℕ, suc, ◌+◌, ◌*◌, ◌-◌, ◌/◌, ◌%◌, ◌≤◌, ◌<◌, length, get_or, set, take, drop}
+use Rattle.std.specs.Prelude.{◌≡◌, ◌≢◌, Bool, false, List, map, ℕ, suc, ◌+◌, ◌*◌, ◌-◌, ◌/◌, ◌%◌, ◌≤◌, ◌<◌}
+use Rattle.std.specs.Prelude.{length, get_or, set, take, drop}
 use Rattle.buffers.specs.Map.{trail_room, at_table, at_origins, partner_field}
 use Rattle.matching.specs.Pairs.{Pair, Points, sum, Each}
 use Rattle.matching.specs.Pairing.{Once, seen}

@@ -1,5 +1,7 @@
 // Inner, for weighing and lifting: a pairing into the table of partners, and out of it with where its pairs came from.
 // See specs/Table.
+#![tactic(auto)]
+
 ghost use Rattle.std.specs.Prelude.{◌≡◌, not, List, ℕ, ◌*◌, ◌%◌, ◌≤◌, ◌<◌, length};
 ghost use Rattle.buffers.specs.Map.{partner_field};
 ghost use Rattle.matching.specs.Pairs.{Pair};

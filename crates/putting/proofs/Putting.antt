@@ -15,7 +15,7 @@ use borrow.Author.Tests.{lt-ltb, le-ltb}
 use Rattle.matching.specs.Pairs.{Points, ι}
 use Rattle.matching.specs.Graph.{Graph, put}
 use Rattle.matching.proofs.Tests.{Test, pass, fail, fails}
-use Rattle.matching.proofs.Pairs.{Same, Apart, same_t}
+use Rattle.matching.proofs.Pairs.{Same, Apart, same_test}
 use Rattle.matching.proofs.Sums.{turned_same}
 use Rattle.matching.proofs.Put.{put_at, put_else}
 use Rattle.slots.specs.Slots.{Holds, graph_of, low_of, high_of, Joins, Changed}
@@ -30,7 +30,7 @@ use Rattle.finding.proofs.Gone.{put_away}
 
 pub put_zero : {n : ℕ} {w : Points} → Graph n w → (x y : ℕ) → w x y ≡ 0 → put x y 0 w ≡ w
 unfolding put
-put_zero {n} {w} g x y z = fun_ext (λ a. fun_ext (λ b. go a b (same_t x y a b)))
+put_zero {n} {w} g x y z = fun_ext (λ a. fun_ext (λ b. go a b (same_test x y a b)))
   where
     go : (a b : ℕ) {t : Bool} → Test (Same x y a b) (Apart x y a b) t → cond t 0 (w a b) ≡ w a b
     go a b (pass s) = sym (turned_same w g.turned x y a b s ∙ z)
@@ -38,7 +38,7 @@ put_zero {n} {w} g x y z = fun_ext (λ a. fun_ext (λ b. go a b (same_t x y a b)
 
 pub put_twice : (x y k l : ℕ) (w : Points) → put x y k (put x y l w) ≡ put x y k w
 unfolding put
-put_twice x y k l w = fun_ext (λ a. fun_ext (λ b. go a b (same_t x y a b)))
+put_twice x y k l w = fun_ext (λ a. fun_ext (λ b. go a b (same_test x y a b)))
   where
     go : (a b : ℕ) {t : Bool} → Test (Same x y a b) (Apart x y a b) t
         → cond t k (cond t l (w a b)) ≡ cond t k (w a b)
@@ -46,7 +46,7 @@ put_twice x y k l w = fun_ext (λ a. fun_ext (λ b. go a b (same_t x y a b)))
     go a b (fail n) = refl
 
 pub put_beyond : (x y k : ℕ) (w : Points) (c z : ℕ) → z ≢ x → z ≢ y → put x y k w c z ≡ w c z
-put_beyond x y k w c z nx ny = put_else x y k w c z (fails (same_t x y c z) off)
+put_beyond x y k w c z nx ny = put_else x y k w c z (fails (same_test x y c z) off)
   where
     off : Same x y c z → ⊥
     off (inl q) = ny q.1

@@ -1,4 +1,6 @@
 // Inner, for the reduction: puts pairs in place of a row that was taken. See specs/Putting.
+#![tactic(auto)]
+
 ghost use Rattle.std.specs.Prelude.{◌≡◌, ◌≢◌, ◌+◌, ◌<◌, ◌≤◌, ltb};
 ghost use Rattle.matching.specs.Pairs.{ι};
 ghost use Rattle.matching.specs.Graph.{put};
@@ -51,7 +53,7 @@ fn free_pair(w1: &mut [u64], w2: &mut [u64], e: usize, u: usize, v: usize) -> u6
 }
 
 // After a pair was raised: the slots in use, and 1 where its points were greater already.
-#[derive(Drop)]
+#[derive(Clone, Copy)]
 pub struct Raised {
     pub slots: usize,
     pub more: u64,

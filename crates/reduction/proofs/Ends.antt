@@ -1,6 +1,6 @@
 -- The end of a call. In order: the short list of the graph whose pairs stand as rows and cells, its length, refused or
--- written by the output's room; the slip of the steps that stand as words, likewise (`taken_length`, `slip_file_is`); both
--- files, of which neither is written where one has no room. Assumes nothing.
+-- written by the output's room; the slip of the steps that stand as words, likewise (`taken_length`, `slip_file_is`);
+-- both files, of which neither is written where one has no room. Assumes nothing.
 use mathlib.Core.Path.{◌≡◌, refl, ap, ◌∙◌}
 use mathlib.Core.List.{List, [], ◌∷◌, map}
 use Prim.Native.Nat.{ℕ, ◌+◌, ◌*◌, ◌-◌, ◌≤◌, ◌<◌}
@@ -13,7 +13,8 @@ use Rattle.matching.specs.Steps.{Rule, by_leaf, by_ring, by_chain, Step, name}
 use Rattle.matching.proofs.Alls.{all_map}
 use Rattle.matching.proofs.Short.{EntryOf, short_entries}
 use Rattle.matching.proofs.More.{short_more}
-use Rattle.cellfile.specs.Files.{slip as slip_layout, short_list as short_layout, write_file, onto, as_fields, number_of}
+use Rattle.cellfile.specs.Files.{slip as slip_layout, short_list as short_layout, write_file, onto, as_fields}
+use Rattle.cellfile.specs.Files.{number_of}
 use Rattle.cellfile.specs.Files.{name_fields}
 use Rattle.cellfile.specs.Words.{file_of, name_word, no_entry, RowsOf, RowsFit}
 use Rattle.cellfile.proofs.Outputs.{plain_slip, words_length, records_file}

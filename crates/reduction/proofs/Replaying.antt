@@ -24,7 +24,8 @@ use Rattle.checks.proofs.Answering.{passed}
 use Rattle.starting.proofs.OnList.{left_there}
 
 -- the short list that is written is that of the steps taken
-pub left_file_is : (list : List ℕ) (ss : List Step) {n slots trail points steps : ℕ} {w1' w2' : List ℕ} → n ≡ cells_of list
+pub left_file_is : (list : List ℕ) (ss : List Step) {n slots trail points steps : ℕ} {w1' w2' : List ℕ}
+    → n ≡ cells_of list
     → After (graph_in list) ss slots trail points steps w1' w2'
     → left_file n points (graph_of slots w1') ≡ short_file list ss
 left_file_is list ss {slots = slots} {points = points} {w1' = w1'} en a =

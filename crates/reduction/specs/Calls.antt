@@ -4,7 +4,8 @@ use Rattle.std.proofs.Math.Option.{some, none}
 use Rattle.matching.specs.Listed.{short_list}
 use Rattle.matching.specs.Steps.{Step}
 use Rattle.matching.specs.Slip.{left, carried}
-use Rattle.cellfile.specs.Files.{slip as slip_layout, short_list as short_layout, cells_of, steps_of, as_fields, write_file}
+use Rattle.cellfile.specs.Files.{slip as slip_layout, short_list as short_layout, cells_of, steps_of, as_fields}
+use Rattle.cellfile.specs.Files.{write_file}
 use Rattle.cellfile.specs.Files.{name_fields}
 use Rattle.cellfile.specs.Answers.{Answer}
 use Rattle.checks.specs.Calls.{answering}

@@ -1,4 +1,6 @@
 // Replaying a slip on a list, and reducing a list: the calls replay and reduce.
+#![tactic(auto)]
+
 mod calls;
 
 ghost use Rattle.std.specs.Prelude.{◌≡◌, length};

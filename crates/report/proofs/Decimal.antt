@@ -48,6 +48,7 @@ glyph_is d l = rw (lt-ltb d 10 l)
 -- r + 1 are the fewest digits of v
 digits_is : (k r v : ℕ) → r < k → v < 10 ^ suc r → (0 < r → 10 ^ r ≤ v) → spelt 10 (suc r) v ≡ digits k v
 unfolding digits
+digits_is zero r v b u l = elim b [ ]
 digits_is (suc k) zero v b u l = rw (lt-ltb v 10 u, glyph_is (v % 10) (omega arith))
 digits_is (suc k) (suc r) v b u l =
     let high : 10 ^ r * 10 ≤ v = rw (← pow-suc 10 r) (l (omega arith)) in

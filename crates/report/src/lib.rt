@@ -1,4 +1,6 @@
 // The text that the program prints: the call print. See specs/Printed.
+#![tactic(auto)]
+
 mod pairs;
 mod text;
 
@@ -94,8 +96,8 @@ fn print_in(
 
 // Puts what the program prints of the list at the start of the text: its length.
 pub fn print(list: &[u8], text: &mut [u8; 36864]) -> usize
-    ensures prefix_len { IsPrefixLen result text.new }
-    ensures text_after { take result text.new ≡ printed list.now }
+    ensures fits { IsPrefixLen result text.new }
+    ensures text { take result text.new ≡ printed list.now }
 {
     let mut work_a = [0u64; 8192];
     let mut work_b = [0u64; 8192];

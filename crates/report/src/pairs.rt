@@ -9,7 +9,7 @@ use cellfile::decode;
 use checks;
 
 // Where the lines end, and the sum of the points.
-#[derive(Drop)]
+#[derive(Clone, Copy)]
 pub struct Lines {
     pub end: usize,
     pub total: u64,

@@ -1,6 +1,7 @@
 -- The row of a ring or a chain as words in reading order, and the points of its heaviest pairings. Inner contracts cite
 -- this; what they promise is H of crate matching.
-use Rattle.std.specs.Prelude.{ℕ, ◌+◌, ◌*◌, ◌-◌, ◌%◌, ◌<◌, max, ◌≡◌, Bool, true, false, cond, List, [], ◌∷◌, ◌++◌, map, eqb, length, take, drop, replicate}
+use Rattle.std.specs.Prelude.{ℕ, ◌+◌, ◌*◌, ◌-◌, ◌%◌, ◌<◌, max, ◌≡◌, Bool, true, false, cond, List, [], ◌∷◌, ◌++◌, map}
+use Rattle.std.specs.Prelude.{eqb, length, take, drop, replicate}
 use Rattle.matching.specs.Lists.{mem, distinct}
 use Rattle.matching.specs.Pairs.{Pair, Points, ι, Each}
 use Rattle.matching.specs.Best.{H, pays, best, tie, walk}

@@ -1,5 +1,7 @@
 // Inner, for the reduction and the way back: the heaviest pairings of the row of a chain or ring, over its words in
 // reading order. Their points, and the best as marks: see specs/Row.
+#![tactic(auto)]
+
 ghost use Rattle.std.specs.Prelude.{◌≡◌, ◌≢◌, cond, List, ◌++◌, map, ℕ, ◌*◌, ◌-◌, ◌<◌, ◌≤◌, max, eqb, length};
 ghost use Rattle.matching.specs.Pairs.{Points, ι};
 ghost use Rattle.matching.specs.Best.{pays, tie};
@@ -10,7 +12,7 @@ ghost use Rattle.rows.specs.Row.{Blank, less, RowBest};
 use buffers::map;
 
 // H of a chain, of it less u, less v, and less both.
-#[derive(Drop)]
+#[derive(Clone, Copy)]
 pub struct ChainPoints {
     pub whole: u64,
     pub less_u: u64,
@@ -19,7 +21,7 @@ pub struct ChainPoints {
 }
 
 // H of a ring, and of it less u.
-#[derive(Drop)]
+#[derive(Clone, Copy)]
 pub struct RingPoints {
     pub whole: u64,
     pub less_u: u64,

@@ -1,5 +1,5 @@
--- A run of leaf steps behind the steps so far. In order: the names of leaf steps as words (`leaf_names_is`); that there is
--- room for what was taken (`leaves_most`); that what a run carries fits (`leaves_carry`), and where the loop stands
+-- A run of leaf steps behind the steps so far. In order: the names of leaf steps as words (`leaf_names_is`); that there
+-- is room for what was taken (`leaves_most`); that what a run carries fits (`leaves_carry`), and where the loop stands
 -- after it (`after_leaves`). Assumes nothing.
 use mathlib.Core.Path.{◌≡◌, refl, sym, ap, ap₂, subst, ◌∙◌}
 use mathlib.Core.Bool.{Bool}

@@ -1,11 +1,11 @@
 -- The loop of replay and reduce. In order: the step that comes next, as it is found at one cell (`one_cell`); a step's
--- name is the word of a slip (`name_word_is`); where the loop starts (`run_start`); where it stands, the step that comes
--- next is found (`next_scanned`, `next_first`), the loop ends (`run_out`, `run_refused`, `run_ends`), or steps were
--- taken (`Went`) that leave room (`run_room`) and from which it goes on (`run_on`); a step that was found is there to
--- be taken (`step_there`), its name and what it carries fit (`step_named`, `step_carried`), and the loop goes on from
--- it (`after_step`). Assumes nothing.
+-- name is the word of a slip (`name_word_is`); where the loop starts (`run_start`); where it stands, the step that
+-- comes next is found (`next_scanned`, `next_first`), the loop ends (`run_out`, `run_refused`, `run_ends`), or steps
+-- were taken (`Went`) that leave room (`run_room`) and from which it goes on (`run_on`); a step that was found is there
+-- to be taken (`step_there`), its name and what it carries fit (`step_named`, `step_carried`), and the loop goes on
+-- from it (`after_step`). Assumes nothing.
 use mathlib.Core.Path.{◌≡◌, refl, sym, ap, ap₂, subst, ◌∙◌}
-use mathlib.Core.Logic.{inl, inr}
+use mathlib.Core.Logic.{◌⊎◌, inl, inr, ◌≢◌}
 use mathlib.Core.List.{List, [], ◌∷◌, ◌++◌, map, map-append, append-nil}
 use mathlib.Core.Option.{Option, some, none}
 use Prim.Native.Nat.{ℕ, suc, ◌+◌, ◌*◌, ◌-◌, ◌≤◌, ◌<◌}
@@ -37,6 +37,9 @@ use Rattle.slots.specs.Slots.{Holds, graph_of}
 use Rattle.slots.proofs.Holding.{holds_room, holds_aside}
 use Rattle.finding.specs.Finding.{told, to_tell, Finds, step_from, step_of, Quiet, RingQuiet}
 use Rattle.finding.specs.declared.Found.{Found}
+use Rattle.finding.specs.declared.Step as declared
+use Rattle.finding.specs.declared.Step.TheVariants as found
+use Rattle.finding.proofs.Scans.{told_some}
 use Rattle.bounds.specs.Bounds.{Quieted, LowestRing, RingQuieted, RingsLeft}
 use Rattle.trail.specs.Trail.{step_words, trail}
 use Rattle.trail.proofs.Trail.{trail_append, room_on_trail}
@@ -67,6 +70,15 @@ unfolding packed
 name_word_is (leaf u v) q l = (omega arith, omega arith, omega arith)
 name_word_is (ring u z inner) q l = (omega arith, omega arith, omega arith)
 name_word_is (chain u v z inner) q l = (omega arith, omega arith, omega arith)
+
+-- what was found is no step where it is none of the three
+pub is_some : {s : declared.Step}
+    → ((v : ℕ) × (u : ℕ) × (s ≡ found.Leaf v u)) ⊎ (((u : ℕ) × (z : ℕ) × (s ≡ found.Ring u z))
+    ⊎ ((u : ℕ) × (v : ℕ) × (z : ℕ) × (s ≡ found.Chain u v z)))
+    → s ≢ found.None
+is_some (inl (v, u, e)) z = omega (arith, ap (λ (x : Answer). x.0) (ap told (sym e ∙ z)))
+is_some (inr (inl (u, z', e))) z = omega (arith, ap (λ (x : Answer). x.0) (ap told (sym e ∙ z)))
+is_some (inr (inr (u, v, z', e))) z = omega (arith, ap (λ (x : Answer). x.0) (ap told (sym e ∙ z)))
 
 -- ---- what holds between the steps
 
@@ -229,6 +241,27 @@ rings_stay (inl z) q = λ c l. absurd (omega arith)
 rings_stay (inr (l, z, e)) q = rw e (q l z)
 
 -- ---- the step that was found
+
+-- it is there to be taken
+abbrev pub found_there : {n : ℕ} {w : Points} {m more : ℕ} {slip : List ℕ} {at : Place} {w1 w2 : List ℕ} {x : Found}
+    → Coursing n w m more slip at w1 w2
+    → Finds at.slots w1 (next_step n (graph_of at.slots w1) (names_from m slip at.steps)) x
+    → ((v : ℕ) × (u : ℕ) × (x.step ≡ found.Leaf v u)) ⊎ (((u : ℕ) × (z : ℕ) × (x.step ≡ found.Ring u z))
+    ⊎ ((u : ℕ) × (v : ℕ) × (z : ℕ) × (x.step ≡ found.Chain u v z)))
+    → at.steps < m + more → FoundThere m at x w1 w2
+found_there {n} {w} {m} {more} {slip} {at} {w1} {w2} {x} h f k l =
+    let s = told_some x.step (is_some k) (next_step n (graph_of at.slots w1) (names_from m slip at.steps)) f.step in
+    record {
+      n = n;
+      w = w;
+      more = more;
+      slip = slip;
+      coursing = h;
+      step = s.0;
+      next = s.1;
+      finds = subst (λ (o : Option Step). Finds at.slots w1 o x) s.1 f;
+      ahead = l;
+    }
 
 -- where the loop stands after it
 abbrev pub stepped : Place → Taken → ℕ → ℕ → ℕ → Place

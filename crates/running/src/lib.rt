@@ -1,4 +1,6 @@
 // Inner, for the calls: the loop over the steps of a slip and then those of reduce. See specs/Running and specs/Course.
+#![tactic(auto)]
+
 pub mod lists;
 
 ghost use Rattle.std.specs.Prelude.{◌≡◌, List, ℕ, ◌+◌, ◌*◌, ◌≤◌, ◌<◌, length, set};
@@ -22,7 +24,7 @@ use taking;
 
 // Refusal 8, or what stands in the buffers after the steps: the slots in use, the words on the trail, the points
 // carried, and the number of steps, which stand as words from NAMES on in the second buffer.
-#[derive(Drop)]
+#[derive(Clone, Copy)]
 pub enum Ran {
     Refused(u32),
     Done {
@@ -34,7 +36,7 @@ pub enum Ran {
 }
 
 // How a slip names a step.
-#[derive(Drop)]
+#[derive(Clone, Copy)]
 pub struct Name {
     pub rule: u64,
     pub cell: usize,
@@ -63,7 +65,7 @@ fn name_of(step: Step) -> Name
 
 // Where the loop stands: the slots in use, the words on the trail, the points carried and the steps taken. No cell
 // below `low` is a leaf, none below `rings` is named by a ring step.
-#[derive(Drop)]
+#[derive(Clone, Copy)]
 struct Place {
     slots: usize,
     trail: usize,

@@ -1,6 +1,6 @@
 -- What is known of sets. In order: a buffer that keeps it (`Kept`) through calls and where a set becomes known; a part
--- of the table cleared, so that nothing is known of its sets (`part_cleared`); being ready then (`ready_forgotten`), and
--- after a call for a smaller set (`ready_kept`).
+-- of the table cleared, so that nothing is known of its sets (`part_cleared`); being ready then (`ready_forgotten`),
+-- and after a call for a smaller set (`ready_kept`).
 use mathlib.Core.Path.{◌≡◌, refl, sym, ap, ◌∙◌}
 use mathlib.Core.Logic.{◌≢◌}
 use mathlib.Core.Bool.{Bool}

@@ -1,4 +1,6 @@
 // Inner, for solving: the heaviest pairing of a set of at most 12 cells, by their places. See specs/Sets.
+#![tactic(auto)]
+
 ghost use Rattle.std.specs.Prelude.{◌≡◌, ◌-◌, ◌^◌, ◌<◌, ◌≤◌, length};
 ghost use Rattle.sets.specs.Sets.{points, Lowest, Best, Kept, Ready, Forgotten, Takes};
 
@@ -13,7 +15,7 @@ const POINT: u64 = 16;
 
 // The lowest place of a set with its partner in the set's heaviest pairing (0 where it has none, else the partner's
 // place and 1), and the set without them.
-#[derive(Drop)]
+#[derive(Clone, Copy)]
 pub struct Taken {
     pub low: usize,
     pub partner: usize,
@@ -57,8 +59,8 @@ fn single(p: usize) -> usize
     1 << p
 }
 
-// The word of the set s of some of the first k places: the points of its heaviest pairing, and the partner of its lowest
-// place in it (0 where it has none, else the partner's place and 1). It is kept in the table.
+// The word of the set s of some of the first k places: the points of its heaviest pairing, and the partner of its
+// lowest place in it (0 where it has none, else the partner's place and 1). It is kept in the table.
 #[cycle(heavy_word_of)]
 fn word_of(ws: &[u64], w1: &mut [u64], k: usize, s: usize) -> u64
     requires { Ready ws.now w1.old k s }

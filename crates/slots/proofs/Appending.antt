@@ -137,7 +137,8 @@ module _ {w1 w2 w1' t w2' : List ℕ} {e a b k low_link high_link x : ℕ} (h : 
   old_word : (j : ℕ) → j ≢ e → j ≢ at_cells + e → get_or w1' j 0 ≡ get_or w1 j 0
   old_word = elsewhere_both w1 e k (at_cells + e) x e1
 
-  kept : (j : ℕ) → j ≢ at_lasts + a → j ≢ at_lasts + b → j ≢ at_sums + a → j ≢ at_sums + b → get_or w2' j 0 ≡ get_or w2 j 0
+  kept : (j : ℕ) → j ≢ at_lasts + a → j ≢ at_lasts + b → j ≢ at_sums + a → j ≢ at_sums + b
+      → get_or w2' j 0 ≡ get_or w2 j 0
   kept j n m n' m' = ad.others j n' m' ∙ elsewhere_both w2 (at_lasts + a) (e + 1) (at_lasts + b) (e + 1) e2 j n m
 
   is_appended : Appended (store w1 w2) (store w1' w2') e a b k

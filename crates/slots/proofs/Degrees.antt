@@ -18,7 +18,7 @@ use Rattle.matching.proofs.Sums.{hit_none, hit_one}
 use Rattle.slots.specs.Slots.{total, key, key_at, Store, store, graph, Slots, Holds, graph_of}
 use Rattle.slots.proofs.Totals.{total_most}
 use Rattle.slots.proofs.Keys.{key_of}
-use Rattle.slots.proofs.Graphs.{join_t, same_is, graph_same_pair, graph_none, graph_suc, graph_gone}
+use Rattle.slots.proofs.Graphs.{join_test, same_is, graph_same_pair, graph_none, graph_suc, graph_gone}
 
 -- ---- the number of partners
 
@@ -80,7 +80,7 @@ live s c i = cond (ltb 0 (s.weight i)) (hit c (s.low i) (s.high i)) 0
 module _ (s : Store) (e : ℕ) (up : s.low e < s.high e) (low : s.high e < 1024)
     (absent : graph s e (s.low e) (s.high e) ≡ 0) (c : ℕ) where
   unlike : (x y : ℕ) → (Same (s.low e) (s.high e) x y → ⊥) → graph s (suc e) x y ≡ graph s e x y
-  unlike x y n = graph_suc s e x y ∙ rw (fails (join_t s e x y) n) (omega arith)
+  unlike x y n = graph_suc s e x y ∙ rw (fails (join_test s e x y) n) (omega arith)
 
   alike : (x y : ℕ) → Same (s.low e) (s.high e) x y → graph s (suc e) x y ≡ s.weight e + graph s e x y
   alike x y q = graph_suc s e x y ∙ rw (same_is q)

@@ -14,7 +14,7 @@ use Rattle.matching.proofs.Pairs.{Same}
 use Rattle.slots.specs.Slots.{store, graph, last, Holds, low_of, high_of, link_of, Joins, graph_of}
 use Rattle.slots.specs.Found.{FindSlot}
 use Rattle.slots.proofs.Totals.{total_none}
-use Rattle.slots.proofs.Graphs.{gives, join_t, same_is}
+use Rattle.slots.proofs.Graphs.{gives, join_test, same_is}
 use Rattle.slots.proofs.Links.{Has, has_test, Last, last_is, link_is}
 
 -- The slots from `to` on give the pair nothing; i names the last slot of u below `to`.
@@ -44,7 +44,8 @@ module _ {e u v : ℕ} {w1 w2 : List ℕ} {i : ℕ} (h : Holds e w1 w2) (p : Sou
 
   -- a slot without u gives the pair nothing
   off_none : (j : ℕ) → touches u (low_of w1 j) (high_of w1 j) ≡ false → gives (store w1 w2) u v j ≡ 0
-  off_none j f = rw (fails (join_t (store w1 w2) j u v) (λ q. no q (holds (not_test (has_test (store w1 w2) j u)) (ap not f))))
+  off_none j f = rw (fails (join_test (store w1 w2) j u v)
+      (λ q. no q (holds (not_test (has_test (store w1 w2) j u)) (ap not f))))
     where
       no : Same (low_of w1 j) (high_of w1 j) u v → (low_of w1 j ≢ u) × (high_of w1 j ≢ u) → ⊥
       no (inl q) n = n.0 (sym q.0)
@@ -93,7 +94,7 @@ module _ {e u v : ℕ} {w1 w2 : List ℕ} {i : ℕ} (h : Holds e w1 w2) (p : Sou
               dead : (t : Bool) → cond t (get_or w1 k 0) 0 ≡ 0
               dead true = z
               dead false = refl
-          missed (inr m) = rw (fails (join_t (store w1 w2) k u v) no)
+          missed (inr m) = rw (fails (join_test (store w1 w2) k u v) no)
             where
               no : Same (low_of w1 k) (high_of w1 k) u v → ⊥
               no (inl q) = m (omega (arith, q.0, q.1))

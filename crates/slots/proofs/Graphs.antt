@@ -12,7 +12,7 @@ use Rattle.buffers.specs.Map.{at_sums, at_lasts}
 use Rattle.matching.specs.Pairs.{same}
 use Rattle.matching.specs.Graph.{Graph, put}
 use Rattle.matching.proofs.Tests.{Test, pass, fail, eq_test, holds, fails}
-use Rattle.matching.proofs.Pairs.{Same, Apart, same_t}
+use Rattle.matching.proofs.Pairs.{Same, Apart, same_test}
 use Rattle.matching.proofs.Sums.{same_turned, same_self}
 use Rattle.slots.specs.Slots.{total, Store, store, graph, last, Slots, Holds, graph_of, Joins, NoSlots}
 use Rattle.slots.proofs.Totals.{total_same, total_none}
@@ -24,8 +24,8 @@ gives s x y i = cond (same (s.low i) (s.high i) x y) (s.weight i) 0
 abbrev pub Join : Store → ℕ → ℕ → ℕ → Bool → Type 0
 Join s i x y t = Test (Same (s.low i) (s.high i) x y) (Apart (s.low i) (s.high i) x y) t
 
-pub join_t : (s : Store) (i x y : ℕ) → Join s i x y (same (s.low i) (s.high i) x y)
-join_t s i x y = same_t (s.low i) (s.high i) x y
+pub join_test : (s : Store) (i x y : ℕ) → Join s i x y (same (s.low i) (s.high i) x y)
+join_test s i x y = same_test (s.low i) (s.high i) x y
 
 -- Slot j has the same weight and cells in both.
 abbrev pub Alike : Store → Store → ℕ → Type 0
@@ -64,7 +64,7 @@ graph_same_pair s e {a} {b} (inr q) = rw (q.0, q.1) (graph_turned s e b a)
 
 pub graph_none : (s : Store) (e x y : ℕ) → ((j : ℕ) → j < e → Same (s.low j) (s.high j) x y → ⊥) → graph s e x y ≡ 0
 unfolding graph
-graph_none s e x y n = total_none _ e (λ j l. rw (fails (join_t s j x y) (n j l)))
+graph_none s e x y n = total_none _ e (λ j l. rw (fails (join_test s j x y) (n j l)))
 
 pub slots_graph : (e : ℕ) (s : Store) → Slots e s → Graph 1024 (graph s e)
 slots_graph e s h = record {
@@ -102,7 +102,7 @@ graph_gone s e z = fun_ext (λ x. fun_ext (λ y. graph_suc s e x y ∙ go x y (s
 pub graph_put : (s : Store) (e : ℕ) → graph s e (s.low e) (s.high e) ≡ 0
     → graph s (suc e) ≡ put (s.low e) (s.high e) (s.weight e) (graph s e)
 unfolding put
-graph_put s e z = fun_ext (λ x. fun_ext (λ y. graph_suc s e x y ∙ go x y (join_t s e x y)))
+graph_put s e z = fun_ext (λ x. fun_ext (λ y. graph_suc s e x y ∙ go x y (join_test s e x y)))
   where
     go : (x y : ℕ) {t : Bool} → Join s e x y t
         → cond t (s.weight e) 0 + graph s e x y ≡ cond t (s.weight e) (graph s e x y)
@@ -125,14 +125,14 @@ alone s (suc e) i l o pos = go (eq_test e i) (λ k. alone s e i k (λ j m. o j (
     go : {r : Bool} → Test (e ≡ i) (e ≢ i) r → (i < e → graph s e (s.low i) (s.high i) ≡ s.weight i)
         → gives s (s.low i) (s.high i) e + graph s e (s.low i) (s.high i) ≡ s.weight i
     go (pass q) f = rw (q, same_self (s.low i) (s.high i)) (omega (arith, o i (omega arith)))
-    go (fail n) f = at (f (omega arith)) (join_t s e (s.low i) (s.high i))
+    go (fail n) f = at (f (omega arith)) (join_test s e (s.low i) (s.high i))
 
 -- The points of a pair that a live slot joins.
 pub joins_points : {e : ℕ} {w1 w2 : List ℕ} {i x y : ℕ} → Holds e w1 w2 → Joins e w1 i x y
     → graph_of e w1 x y ≡ get_or w1 i 0
 unfolding graph
 joins_points {e} {w1} {w2} {i} {x} {y} h j =
-    graph_same_pair (store w1 w2) e (holds (join_t (store w1 w2) i x y) j.cells)
+    graph_same_pair (store w1 w2) e (holds (join_test (store w1 w2) i x y) j.cells)
     ∙ alone (store w1 w2) e i j.below h.slots.once j.live
 
 -- ---- no slots

@@ -18,7 +18,7 @@ use Rattle.matching.proofs.Pairs.{Same}
 use Rattle.matching.proofs.Sums.{or_turn}
 use Rattle.slots.specs.Slots.{store, graph, last, Holds, graph_of, low_of, high_of, Joins}
 use Rattle.slots.proofs.Stores.{elsewhere, as_long}
-use Rattle.slots.proofs.Graphs.{join_t, joins_points}
+use Rattle.slots.proofs.Graphs.{join_test, joins_points}
 use Rattle.slots.proofs.Links.{last_same}
 
 -- ---- room
@@ -68,7 +68,7 @@ put_turned x y k g =
     fun_ext (λ a. fun_ext (λ b. ap (λ t. cond t k (g a b)) (or_turn (eqb a x && eqb b y) (eqb a y && eqb b x))))
 
 pub joins_cells : {e : ℕ} {w1 : List ℕ} {i x y : ℕ} → Joins e w1 i x y → Same (low_of w1 i) (high_of w1 i) x y
-joins_cells {e} {w1} {i} {x} {y} j = holds (join_t (store w1 []) i x y) j.cells
+joins_cells {e} {w1} {i} {x} {y} j = holds (join_test (store w1 []) i x y) j.cells
 
 pub joins_put : {e : ℕ} {w1 : List ℕ} {i x y : ℕ} → Joins e w1 i x y → (k : ℕ) (g : Points)
     → put (low_of w1 i) (high_of w1 i) k g ≡ put x y k g

@@ -12,12 +12,12 @@ use Rattle.matching.specs.Graph.{Graph, partners, put}
 use Rattle.matching.specs.Steps.{leafed}
 use Rattle.matching.proofs.Tests.{Test, pass, fail, lt_test, holds}
 use Rattle.matching.proofs.Members.{mem_one}
-use Rattle.matching.proofs.Pairs.{Same, Apart, same_t}
+use Rattle.matching.proofs.Pairs.{Same, Apart, same_test}
 use Rattle.matching.proofs.Sums.{touches_test}
 use Rattle.matching.proofs.Partners.{has_partner}
 use Rattle.slots.specs.Slots.{store, Holds, graph_of, low_of, high_of, Joins, Changed, less_all}
 use Rattle.slots.proofs.Stores.{aside_on}
-use Rattle.slots.proofs.Graphs.{join_t, same_swap, apart_not, holds_graph, joins_points}
+use Rattle.slots.proofs.Graphs.{join_test, same_swap, apart_not, holds_graph, joins_points}
 
 -- A cell with one partner has no other pair.
 pub only_pair : {n : ℕ} {g : Points} → Graph n g → (u v : ℕ) → partners n g v ≡ u ∷ [] → (c : ℕ) → c ≢ u → g v c ≡ 0
@@ -41,7 +41,7 @@ module _ {n : ℕ} {g : Points} (G : Graph n g) (u v x y p : ℕ) (is : Same x y
 
   leaf_at : (a b : ℕ) → less_all u p (put x y 0 g) a b ≡ leafed g u v a b
   unfolding less_all put leafed
-  leaf_at a b = go (same_t x y a b) (touches_test v a b) (touches u a b)
+  leaf_at a b = go (same_test x y a b) (touches_test v a b) (touches u a b)
     where
       go : {r t : Bool} → Test (Same x y a b) (Apart x y a b) r → Test ((a ≡ v) ⊎ (b ≡ v)) ((a ≢ v) × (b ≢ v)) t
           → (q : Bool) → cond q (cond r 0 (g a b) - p) (cond r 0 (g a b)) ≡ cond t 0 (cond q (g a b - g u v) (g a b))
@@ -74,4 +74,4 @@ leaf_holds {e} {u} {v} {i} {w1} {w2} {w1'} {w2'} {w1''} {w2''} h j one k l = (
         ≡ leafed (graph_of e w1) u v a b
     step =
         leaf_at (holds_graph h) u v (low_of w1 i) (high_of w1 i) (get_or w1 i 0)
-        (holds (join_t (store w1 w2) i u v) j.cells) (only_pair (holds_graph h) u v one) points
+        (holds (join_test (store w1 w2) i u v) j.cells) (only_pair (holds_graph h) u v one) points

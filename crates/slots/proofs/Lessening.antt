@@ -16,7 +16,7 @@ use Rattle.matching.proofs.Sums.{or_turn}
 use Rattle.slots.specs.Slots.{total, Store, store, graph, last, Holds, graph_of, low_of, high_of, link_of, Aside}
 use Rattle.slots.specs.Slots.{Changed, less_all}
 use Rattle.slots.proofs.Stores.{stored, elsewhere, aside_on}
-use Rattle.slots.proofs.Graphs.{Join, join_t, graph_same_pair}
+use Rattle.slots.proofs.Graphs.{Join, join_test, graph_same_pair}
 use Rattle.slots.proofs.Links.{Last, last_is, link_is}
 
 -- ---- each slot of u has lost p
@@ -47,7 +47,7 @@ module _ (s t : Store) (u p : ℕ) where
   graph_less zero o k x y = less_none (touches u x y) p
   graph_less (suc e) o k x y =
       rw ((k e (omega arith)).0, (k e (omega arith)).1, (k e (omega arith)).2)
-      (go (join_t s e x y) (graph_less e (λ j l. o j (omega arith)) (λ j l. k j (omega arith)) x y))
+      (go (join_test s e x y) (graph_less e (λ j l. o j (omega arith)) (λ j l. k j (omega arith)) x y))
     where
       go : {r : Bool} → Join s e x y r
           → graph t e x y ≡ cond (touches u x y) (graph s e x y - p) (graph s e x y)

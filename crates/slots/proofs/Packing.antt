@@ -98,7 +98,8 @@ module _ {e : ℕ} {w0 w02 v w1 w2 : List ℕ} {i j : ℕ} (h0 : Holds e w0 w02)
         }
 
     pub pack_live : {w1' w2' : List ℕ} → 0 < get_or w1 i 0
-        → Changed (j + 1) (put (low_of w1 i) (high_of w1 i) (get_or w1 i 0) (graph_of j w1)) w1' w2 w2' → Beyond j w1 w1'
+        → Changed (j + 1) (put (low_of w1 i) (high_of w1 i) (get_or w1 i 0) (graph_of j w1)) w1' w2 w2'
+        → Beyond j w1 w1'
         → Packed e w0 v w1' w2' (i + 1) (j + 1)
     pack_live {w1'} {w2'} pos h b =
         record {

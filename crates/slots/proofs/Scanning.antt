@@ -15,7 +15,7 @@ use Rattle.matching.proofs.Pairs.{Same}
 use Rattle.matching.proofs.Sums.{same_turned}
 use Rattle.slots.specs.Slots.{total, store, graph, Holds, graph_of, low_of, high_of, link_of, Joins}
 use Rattle.slots.specs.Found.{LastSlot, SlotOf}
-use Rattle.slots.proofs.Graphs.{join_t, same_is}
+use Rattle.slots.proofs.Graphs.{join_test, same_is}
 use Rattle.slots.proofs.Links.{Has, has_test, Last, last_is, link_is}
 
 told : (w1 w2 : List ℕ) {c to r : ℕ} → Last (store w1 w2) c to r → LastSlot w1 c to r
@@ -62,7 +62,7 @@ joins_turned {e} {w1} {i} {x} {y} j = record {
 -- it has both of them
 pub joins_has : {e : ℕ} {w1 : List ℕ} {i x y : ℕ} → Joins e w1 i x y → touches x (low_of w1 i) (high_of w1 i) ≡ true
 joins_has {e} {w1} {i} {x} {y} j =
-    passes (has_test (store w1 []) i x) (λ n. go n (holds (join_t (store w1 []) i x y) j.cells))
+    passes (has_test (store w1 []) i x) (λ n. go n (holds (join_test (store w1 []) i x y) j.cells))
   where
     go : (low_of w1 i ≢ x) × (high_of w1 i ≢ x) → Same (low_of w1 i) (high_of w1 i) x y → ⊥
     go n (inl q) = n.0 (sym q.0)

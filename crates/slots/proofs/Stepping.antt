@@ -15,7 +15,7 @@ use Rattle.matching.specs.Pairs.{Points}
 use Rattle.matching.specs.Graph.{Graph, partners, degree, put}
 use Rattle.matching.proofs.Tests.{Test, pass, fail, eq_test, holds}
 use Rattle.matching.proofs.Members.{mem_head}
-use Rattle.matching.proofs.Pairs.{Same, Apart, same_t}
+use Rattle.matching.proofs.Pairs.{Same, Apart, same_test}
 use Rattle.matching.proofs.Sums.{hit_one}
 use Rattle.matching.proofs.Partners.{partner_of, two_between, between_only}
 use Rattle.slots.specs.Slots.{key, Store, store, graph, Slots, Holds, graph_of, low_of, high_of, Joins}
@@ -23,7 +23,7 @@ use Rattle.slots.specs.Found.{Next}
 use Rattle.slots.specs.declared.read.Other.{Other}
 use Rattle.slots.proofs.Totals.{total_but, total_at}
 use Rattle.slots.proofs.Keys.{key_of, key_dead}
-use Rattle.slots.proofs.Graphs.{join_t, same_is, same_swap, apart_not, slots_graph, holds_graph}
+use Rattle.slots.proofs.Graphs.{join_test, same_is, same_swap, apart_not, slots_graph, holds_graph}
 use Rattle.slots.proofs.Links.{Has}
 use Rattle.slots.proofs.Weights.{Reweighed, weigh_slots, weigh_put, low_sum, high_sum}
 use Rattle.slots.proofs.Degrees.{live, degree_live}
@@ -109,7 +109,7 @@ module _ (e : ℕ) (s : Store) (h : Slots e s) (c i : ℕ) (l : i < e) (pos : 0 
 
 put_held : (x y : ℕ) (g : Points) (a b : ℕ) → 0 < put x y 0 g a b → Apart x y a b × (0 < g a b)
 unfolding put
-put_held x y g a b = go (same_t x y a b)
+put_held x y g a b = go (same_test x y a b)
   where
     go : {t : Bool} → Test (Same x y a b) (Apart x y a b) t → 0 < cond t 0 (g a b) → Apart x y a b × (0 < g a b)
     go (pass p) h = absurd (omega arith)
@@ -135,7 +135,7 @@ module _ {e : ℕ} {w1 w2 : List ℕ} {c prev i : ℕ} (h : Holds e w1 w2) (lc :
   s = store w1 w2
 
   cells_are : Same (low_of w1 i) (high_of w1 i) prev c
-  cells_are = holds (join_t s i prev c) j.cells
+  cells_are = holds (join_test s i prev c) j.cells
 
   has_c : Has s i c
   has_c = go cells_are

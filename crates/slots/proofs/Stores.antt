@@ -41,7 +41,8 @@ aside_apart : {j : ℕ} → (j < trail_room) ⊎ (at_names ≤ j) → (k : ℕ) 
 aside_apart (inl l) k a b = omega arith
 aside_apart (inr l) k a b = omega arith
 
-pub aside_both : (w : List ℕ) (i v i' v' : ℕ) {w' : List ℕ} → w' ≡ set (set w i v) i' v' → (at_sums ≤ i) × (i < at_names)
+pub aside_both : (w : List ℕ) (i v i' v' : ℕ) {w' : List ℕ} → w' ≡ set (set w i v) i' v'
+    → (at_sums ≤ i) × (i < at_names)
     → (at_sums ≤ i') × (i' < at_names) → Aside w w'
 aside_both w i v i' v' e a b j l =
     elsewhere_both w i v i' v' e j (aside_apart l i a.0 a.1) (aside_apart l i' b.0 b.1)

@@ -17,7 +17,7 @@ use Rattle.slots.specs.Slots.{Changed}
 use Rattle.slots.proofs.Totals.{total_le, total_but, total_at}
 use Rattle.slots.proofs.Keys.{key_of, key_dead, key_low, key_high, key_off, key_live}
 use Rattle.slots.proofs.Stores.{stored, elsewhere, as_long, aside_added}
-use Rattle.slots.proofs.Graphs.{gives, Join, join_t, graph_same_pair, alone}
+use Rattle.slots.proofs.Graphs.{gives, Join, join_test, graph_same_pair, alone}
 use Rattle.slots.proofs.Links.{last_same}
 
 -- ---- over what the words say
@@ -75,7 +75,7 @@ module _ (s t : Store) (e i : ℕ) (h : Slots e s) (p : Reweighed s t i) (le : i
   pub weigh_put : 0 < s.weight i → (x y : ℕ)
       → graph t e x y ≡ put (s.low i) (s.high i) (t.weight i) (graph s e) x y
   unfolding graph put
-  weigh_put pos x y = go (join_t s i x y) (rw ((p.cells i).0, (p.cells i).1) at moved)
+  weigh_put pos x y = go (join_test s i x y) (rw ((p.cells i).0, (p.cells i).1) at moved)
     where
       moved : graph t e x y + gives s x y i ≡ graph s e x y + gives t x y i
       moved =

@@ -2,10 +2,12 @@
 -- `graph_of`, the graph that the buffers hold, and by `Holds`, which every function keeps and nobody else looks into.
 --
 -- First buffer: the weight of slot i at i, 0 where its pair is gone; at `at_cells` + i its cells a < b and two links.
--- Second buffer: from `at_sums` on for each cell the sum of the keys of its live slots, from `at_lasts` on its last slot.
+-- Second buffer: from `at_sums` on for each cell the sum of the keys of its live slots, from `at_lasts` on its last
+-- slot.
 -- A slot is named by its number + 1, and 0 is none, so that cleared buffers hold the empty graph. The link of a slot
 -- for one of its cells is the last slot before it that has the cell: a cell's slots are met in falling order.
-use Rattle.std.specs.Prelude.{◌≡◌, ◌⊎◌, ◌≢◌, true, cond, List, [], ℕ, zero, suc, ◌+◌, ◌*◌, ◌-◌, ◌/◌, ◌%◌, ◌≤◌, ◌<◌, eqb, ltb, length, get_or}
+use Rattle.std.specs.Prelude.{◌≡◌, ◌⊎◌, ◌≢◌, true, cond, List, [], ℕ, zero, suc, ◌+◌, ◌*◌, ◌-◌, ◌/◌, ◌%◌, ◌≤◌, ◌<◌, eqb}
+use Rattle.std.specs.Prelude.{ltb, length, get_or}
 use Rattle.buffers.specs.Map.{at_cells, trail_room, at_sums, at_lasts, at_names}
 use Rattle.matching.specs.Pairs.{Points, ι, same, touches}
 

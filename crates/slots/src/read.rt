@@ -9,7 +9,7 @@ use crate::words;
 use buffers::map;
 
 // A cell with the slot of its pair.
-#[derive(Drop)]
+#[derive(Clone, Copy)]
 pub struct Other {
     pub partner: usize,
     pub slot: usize,

@@ -68,14 +68,14 @@ first_places k l =
 below_all : (k : ℕ) → All (λ i. i < k) (numbers_below k)
 below_all zero = tt
 below_all (suc k) =
-    all_append (λ i. i < suc k) (numbers_below k) (k ∷ []) (all_map (λ i l. omega arith) (numbers_below k) (below_all k))
-    (omega arith, tt)
+    all_append (λ i. i < suc k) (numbers_below k) (k ∷ [])
+    (all_map (λ i l. omega arith) (numbers_below k) (below_all k)) (omega arith, tt)
 
 below_rises : (k : ℕ) → Ascends (λ a b. a < b) (numbers_below k)
 below_rises zero = tt
 below_rises (suc k) =
-    ascends_append (λ x y l (e : y ≡ k). omega arith) (numbers_below k) (k ∷ []) (below_all k) (refl, tt) (below_rises k)
-    (tt, tt)
+    ascends_append (λ x y l (e : y ≡ k). omega arith) (numbers_below k) (k ∷ []) (below_all k) (refl, tt)
+    (below_rises k) (tt, tt)
 
 -- ---- a list by its places
 
@@ -120,4 +120,5 @@ module _ (k : ℕ) (w : Points) (cs : List ℕ) (rise : Ascends (λ a b. a < b) 
         ap (solve 12 (between ws)) (first_places k few),
         solve_fuel (length cs) 12 w cs (omega arith) (omega (arith, count)),
         ← all_cells,
-      ) (solve_alike renames 12 (numbers_below k) (below_rises k) (all_mem (λ i. i < k) (numbers_below k) (below_all k)))
+      ) (solve_alike renames 12 (numbers_below k) (below_rises k)
+      (all_mem (λ i. i < k) (numbers_below k) (below_all k)))

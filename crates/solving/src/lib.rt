@@ -1,5 +1,7 @@
 // Inner, for solve and pair: solves what is left in the slots, group by group. See specs/Left, and specs/Joined for its
 // parts.
+#![tactic(auto)]
+
 ghost use Rattle.std.specs.Prelude.{◌≡◌, List, ℕ, suc, ◌<◌, ◌≤◌};
 ghost use Rattle.matching.specs.Pairs.{Pair, Points};
 ghost use Rattle.grouping.specs.Labels.{Labels};
@@ -16,7 +18,7 @@ use sets;
 use sets::MOST;
 
 // Some group has more than 12 cells; or the points of the solution, of a group or of all.
-#[derive(Drop)]
+#[derive(Clone, Copy)]
 pub enum Solved {
     Crowded,
     Points(u64),

@@ -1,7 +1,7 @@
 -- The course of steps on an accepted list. In order: without more steps it is what the slip's names name
 -- (`course_replay`); the cells of steps that stand; what has passed the list's check (`list_there`); an accepted list
 -- is a graph of its cells (`list_graph`) whose points, with what is carried, have 44 bits after any steps that are
--- allowed (`left_small`); so the loop may run on it (`run-there`), and what the steps leave is a graph (`left_graph`)
+-- allowed (`left_small`); so the loop may run on it (`run_asked`), and what the steps leave is a graph (`left_graph`)
 -- that may be written (`left_there`); they are at most 1,024 (`steps_few`), with cells of 10 bits (`steps_below`).
 -- Assumes nothing.
 use mathlib.Core.Path.{◌≡◌, refl, ap}
@@ -81,8 +81,8 @@ step_below {n} g (chain u v z inner) f =
 stands_below : {n : ℕ} {w : Points} → n ≤ 1024 → Graph n w → (ss : List Step) → Stands w ss
     → All (λ (s : Step). (name s).1 < 1024) ss
 stands_below l g [] f = tt
-stands_below l g (s ∷ ss) f =
-    (omega (arith, step_below g s f.0), stands_below l (step_graph g s f.0) ss f.1)
+stands_below {w = w} l g (s ∷ ss) f =
+    (omega (arith, step_below g s f.0), stands_below {w = apply w s} l (step_graph g s f.0) ss f.1)
 
 -- ---- an accepted list
 

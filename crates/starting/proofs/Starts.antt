@@ -204,7 +204,8 @@ module _ (list : List ℕ) {n : ℕ} (en : n ≡ cells_of list) (w1' w2' : List 
 
 -- what has passed the slip's check
 pub slip_accepted : (list slip : List ℕ) {n i k : ℕ} → n ≡ cells_of list
-    → (0, i ∷ k ∷ []) ≡ answer (first ((7, bad_slip rules n slip) ∷ [])) (n ∷ count_of slip ∷ []) → SlipThere list slip k
+    → (0, i ∷ k ∷ []) ≡ answer (first ((7, bad_slip rules n slip) ∷ [])) (n ∷ count_of slip ∷ [])
+    → SlipThere list slip k
 slip_accepted list slip {n} {i} {k} en e =
     let rows : List Row = (7, bad_slip rules n slip) ∷ [] in
     let a = answer_accepted (first rows) (i ∷ k ∷ []) (n ∷ count_of slip ∷ []) e in

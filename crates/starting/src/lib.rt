@@ -1,4 +1,6 @@
 // Inner, for the calls with steps: their first part, which checks the inputs and takes the steps. See specs/Starting.
+#![tactic(auto)]
+
 ghost use Rattle.std.specs.Prelude.{◌≡◌, ◌++◌, ℕ, ◌<◌, ◌≤◌};
 ghost use Rattle.std.proofs.Math.Option.{some};
 ghost use Rattle.cellfile.specs.Files.{slip as slip_layout, cells_of, steps_of};
@@ -15,7 +17,7 @@ use running;
 use running::{Ran, lists};
 
 // A refusal; or the cells of the list, and as of `running::run` what stands in the buffers after the steps.
-#[derive(Drop)]
+#[derive(Clone, Copy)]
 pub enum Started {
     Refused(u32),
     Done {

@@ -436,7 +436,8 @@ record FoundStep (e : ℕ) (w1 w2 : List ℕ) (t : ℕ) (x : Found) (s : Step) :
   way : Way e w1 (some s) x.first x.slot
   room : t + length (step_words (graph_of e w1) s) ≤ trail_room
 
-row_fits : (t : ℕ) (w : Points) (u : ℕ) (cs : List ℕ) (v k : ℕ) → t + length (words_of_row w u cs v ++ k ∷ []) ≤ trail_room
+row_fits : (t : ℕ) (w : Points) (u : ℕ) (cs : List ℕ) (v k : ℕ)
+    → t + length (words_of_row w u cs v ++ k ∷ []) ≤ trail_room
     → t + length cs + 2 ≤ trail_room
 row_fits t w u cs v k l = omega (arith, length-append (words_of_row w u cs v) (k ∷ []), length_row w u cs v)
 

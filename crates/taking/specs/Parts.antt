@@ -8,7 +8,8 @@ use Rattle.slots.specs.Slots.{Holds, graph_of, Joins}
 use Rattle.finding.specs.Rows.{inner_at}
 use Rattle.taking.specs.declared.Cleared.{Cleared}
 
--- The row's pairs are gone, its words stand on the trail, three slots are free; words from `at_names` on did not change.
+-- The row's pairs are gone, its words stand on the trail, three slots are free; words from `at_names` on did not
+-- change.
 pub record RowGone (e : ℕ) (w1 w2 w1' w2' : List ℕ) (t u f v : ℕ) (r : Cleared) : Type 0 where
   pub count : r.pairs ≡ suc (length (inner_at e w1 u f))
   pub free : r.slots ≤ 4093

@@ -1,4 +1,6 @@
 // Inner, for the reduction: takes a step that was found. See specs/Applying, and specs/Parts for its parts.
+#![tactic(auto)]
+
 ghost use Rattle.std.specs.Prelude.{◌≡◌, ◌+◌, ◌≤◌};
 ghost use Rattle.std.proofs.Math.Option.{some};
 ghost use Rattle.matching.specs.Steps.{Step, leaf, ring, chain};
@@ -18,7 +20,7 @@ use trail;
 use trail::words;
 
 // After a step: the slots in use, the words on the trail, and what the step carries.
-#[derive(Drop)]
+#[derive(Clone, Copy)]
 pub struct Taken {
     pub slots: usize,
     pub trail: usize,
@@ -40,7 +42,7 @@ fn room(w1: &mut [u64], w2: &mut [u64], e: usize) -> usize
 }
 
 // After a row went: the slots in use, and how many pairs the row had.
-#[derive(Drop)]
+#[derive(Clone, Copy)]
 struct Cleared {
     slots: usize,
     pairs: usize,

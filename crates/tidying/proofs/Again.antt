@@ -15,12 +15,14 @@ use Rattle.matching.proofs.Alls.{all_map}
 use Rattle.matching.proofs.Entries.{Fit}
 use Rattle.cellfile.specs.Bytes.{number}
 use Rattle.cellfile.specs.Fields.{fields, read_records}
-use Rattle.cellfile.specs.Files.{store_list, raw_list, as_entry, as_fields, kind_of, cells_of, count_of, zeros_of, file_length}
+use Rattle.cellfile.specs.Files.{store_list, raw_list, as_entry, as_fields, kind_of, cells_of, count_of, zeros_of}
+use Rattle.cellfile.specs.Files.{file_length}
 use Rattle.cellfile.specs.Files.{list_layout, entries_all, entry_key, write_file, list_file}
 use Rattle.cellfile.specs.Fits.{AreBytes}
-use Rattle.cellfile.proofs.All.{all_get_d}
+use Rattle.cellfile.proofs.All.{all_get_or}
 use Rattle.cellfile.proofs.Lists.{shape_is, length_said, store_kind, layout_store, entries_are}
-use Rattle.checks.specs.Refusals.{first, lists, list_rows, not_alist, is_too_large, wrong_length, loose_pair, is_bad_raw}
+use Rattle.checks.specs.Refusals.{first, lists, list_rows, is_no_list, is_too_large, wrong_length, loose_pair}
+use Rattle.checks.specs.Refusals.{is_bad_raw}
 use Rattle.checks.proofs.Rows.{or_none, any_fails, list_none, not_a_list_none}
 use Rattle.checks.proofs.Forms.{loose_not}
 use Rattle.checks.proofs.Ascending.{ascending_ascends}
@@ -33,7 +35,7 @@ use Rattle.tidying.specs.Said.{as_raw}
 
 module _ (b : ℕ) (s : List ℕ) (a : AreBytes (b ∷ s)) where
   byte : (i : ℕ) → get_or s i 0 < 256
-  byte i = all_get_d (λ (x : ℕ). x < 256) s i 0 (omega arith) a.1
+  byte i = all_get_or (λ (x : ℕ). x < 256) s i 0 (omega arith) a.1
 
   raw_kind : kind_of (as_raw (b ∷ s)) ≡ 6
   unfolding fields number
@@ -63,7 +65,7 @@ records_again (suc m) s = ap₂ (λ r rs. r ∷ rs) refl (records_again m (drop 
 -- it is a store list
 module _ (s : List ℕ) (h : first (list_rows lists s) ≡ 0) where
   rows_are : (kind_of s ≡ 1) × (zeros_of s ≡ 0) × (4 ≤ length s)
-  unfolding not_alist
+  unfolding is_no_list
   rows_are =
       let two = (list_none lists s h).0 in
       let k = not_a_list_none lists s two in
@@ -114,8 +116,8 @@ module _ (b : ℕ) (s : List ℕ) (a : AreBytes (b ∷ s)) (h : first (list_rows
       (all_map (λ (e : Entry) f. loose_not (cells_of list) e.0 e.1 (omega (arith, f.0)) (omega (arith, f)) f.1)
       (entries_all list) (accepted_entries list h).0)
 
-  kind_right : not_alist (raw_list.kind ∷ []) (as_raw list) ≡ false
-  unfolding not_alist
+  kind_right : is_no_list (raw_list.kind ∷ []) (as_raw list) ≡ false
+  unfolding is_no_list
   kind_right =
       let r = rows_are list h in
       rw (raw_kind b s a, same_zeros b s a, r.1, le-ltb (length list) 4 r.2)

@@ -12,7 +12,7 @@ use Rattle.matching.specs.Lists.{All, Ascends}
 use Rattle.matching.specs.Pairs.{same}
 use Rattle.matching.specs.Listed.{Entry}
 use Rattle.matching.proofs.Tests.{Test, pass, fail, is_test, lt_test, holds}
-use Rattle.matching.proofs.Pairs.{Same, same_t}
+use Rattle.matching.proofs.Pairs.{Same, same_test}
 use Rattle.matching.proofs.Alls.{all_map}
 use Rattle.matching.proofs.Entries.{Fit}
 use Rattle.cellfile.specs.Files.{entry_key}
@@ -111,7 +111,7 @@ like_key a b x y p q e =
 
 one_key : (a b : ℕ) (x y : Entry) → Fit 1024 x → Fit 1024 y → joins a b x ≡ true → joins a b y ≡ true
     → entry_key x ≡ entry_key y
-one_key a b x y p q e f = go (holds (same_t x.0 x.1 a b) e) (holds (same_t y.0 y.1 a b) f)
+one_key a b x y p q e f = go (holds (same_test x.0 x.1 a b) e) (holds (same_test y.0 y.1 a b) f)
   where
     go : Same x.0 x.1 a b → Same y.0 y.1 a b → entry_key x ≡ entry_key y
     go (inl g) (inl h) = omega arith

@@ -147,5 +147,6 @@ module _ (few : Bool) (raw : List ℕ) {outs : List Output} where
   pub tidy_thirteen : few ≡ false → is_bad_raw raw ≡ true → Unchanged outs → Does (tidy_rows few raw) outs (13, [])
   tidy_thirteen e b u = refused (tidy_rows few raw) [] 0 [] (rw (e, b)) u
 
-  pub tidy_passed : {a : Answer} → few ≡ false → is_bad_raw raw ≡ false → Does [] outs a → Does (tidy_rows few raw) outs a
+  pub tidy_passed : {a : Answer} → few ≡ false → is_bad_raw raw ≡ false → Does [] outs a
+      → Does (tidy_rows few raw) outs a
   tidy_passed e b d = passed (tidy_rows few raw) [] (omega arith) (rw (e, b)) d

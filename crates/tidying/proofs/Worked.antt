@@ -6,7 +6,7 @@ use mathlib.Core.List.{List, [], ◌∷◌}
 use Rattle.cellfile.specs.Bytes.{number, bytes}
 use Rattle.cellfile.specs.Fields.{fields, packed, read_records, write_records}
 use Rattle.cellfile.specs.Files.{list_layout, entries_all}
-use Rattle.checks.specs.Refusals.{too_few_words, not_alist, is_too_large, wrong_length, is_bad_raw, short_output}
+use Rattle.checks.specs.Refusals.{too_few_words, is_no_list, is_too_large, wrong_length, is_bad_raw, short_output}
 use Rattle.sorting.specs.Sorted.{sorted_in, sorted_onto}
 use Rattle.tidying.specs.Calls.{tidied, tidy_file, tidying}
 
@@ -38,5 +38,5 @@ runs_tidied = refl
 pub runs_answers : (answers runs 8192 14 ≡ (0, 14 ∷ [])) × (answers runs 8192 13 ≡ (12, []))
     × (answers twice 8192 0 ≡ (13, [])) × (answers twice 8191 0 ≡ (1, []))
 unfolding number bytes fields packed read_records write_records list_layout entries_all sorted_in sorted_onto tidied
-    too_few_words not_alist is_too_large wrong_length is_bad_raw short_output
+    too_few_words is_no_list is_too_large wrong_length is_bad_raw short_output
 runs_answers = (refl, refl, refl, refl)

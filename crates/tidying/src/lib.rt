@@ -1,4 +1,6 @@
 // The store list from the raw list that the rig writes: the call tidy.
+#![tactic(auto)]
+
 mod parts;
 
 ghost use Rattle.std.specs.Prelude.{◌≡◌, length};

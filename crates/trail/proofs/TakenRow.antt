@@ -20,7 +20,7 @@ use Rattle.matching.specs.Best.{walk}
 use Rattle.matching.specs.Shapes.{first}
 use Rattle.matching.proofs.Tests.{fails}
 use Rattle.matching.proofs.Members.{mem_not, mem_apart, distinct_cons}
-use Rattle.matching.proofs.Pairs.{Same, same_t}
+use Rattle.matching.proofs.Pairs.{Same, same_test}
 use Rattle.matching.proofs.Put.{put_else, pair_below}
 use Rattle.matching.proofs.Partners.{Between, partners_two}
 use Rattle.matching.proofs.Rows.{Run, is_run}
@@ -103,7 +103,8 @@ going_start {e} {w1} {w2} {t} {u} {f} {i} {v} r = record {
     fits = r.fits;
     count = omega arith;
     trail =
-        ap (λ (j : ℕ). take j w2 ++ words_of_row (graph_of e w1) u (inner_at e w1 u f) v) {x = t + 0} {y = t} (omega arith);
+        ap (λ (j : ℕ). take j w2 ++ words_of_row (graph_of e w1) u (inner_at e w1 u f) v) {x = t + 0} {y = t}
+        (omega arith);
     left = refl;
     fewer = omega arith;
     aside = λ j l. refl;
@@ -158,7 +159,7 @@ module _ {e : ℕ} {w1₀ w2₀ : List ℕ} {t u : ℕ} {inner : List ℕ} {v : 
     pair_kept : graph_of e w1' c (first v cs) ≡ g c (first v cs)
     pair_kept =
         ap (λ (w : Points). w c (first v cs)) graph_now
-        ∙ put_else prev c 0 g c (first v cs) (fails (same_t prev c c (first v cs)) not_back)
+        ∙ put_else prev c 0 g c (first v cs) (fails (same_test prev c c (first v cs)) not_back)
 
     next_joins : Joins e w1 r.slot c (first v cs)
     next_joins = rw (← onward) n.joins
@@ -169,7 +170,8 @@ module _ {e : ℕ} {w1₀ w2₀ : List ℕ} {t u : ℕ} {inner : List ℕ} {v : 
     trail_on : take (t + (k + 1)) w2' ++ words_of_row (graph_of e w1') c cs v
         ≡ take t w2₀ ++ words_of_row (graph_of e w1₀) u inner v
     trail_on =
-        ap (λ (j : ℕ). take j w2' ++ words_of_row (graph_of e w1') c cs v) {x = t + (k + 1)} {y = t + k + 1} (omega arith)
+        ap (λ (j : ℕ). take j w2' ++ words_of_row (graph_of e w1') c cs v) {x = t + (k + 1)} {y = t + k + 1}
+        (omega arith)
         ∙ ap (λ (ws : List ℕ). ws ++ words_of_row (graph_of e w1') c cs v) p.trail
         ∙ append_snoc (take (t + k) w2) (prev * unit + get_or w1 slot 0) (words_of_row (graph_of e w1') c cs v)
         ∙ ap (λ (ws : List ℕ). take (t + k) w2 ++ (prev * unit + get_or w1 slot 0) ∷ ws)

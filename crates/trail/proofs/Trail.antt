@@ -57,7 +57,8 @@ module _ (word : ℕ) where
 cell_field : (x c k : ℕ) → c < 1024 → x ≡ c + 1024 * k → x % 1024 ≡ c
 cell_field x c k l e = omega arith
 
-pub step_read : (word : ℕ) (w : Points) (s : Step) → Closable s → word ≡ closing_of w s → step_in word ≡ to_tell (some s)
+pub step_read : (word : ℕ) (w : Points) (s : Step) → Closable s → word ≡ closing_of w s
+    → step_in word ≡ to_tell (some s)
 step_read word w (leaf u v) l e =
     let r : word % 4 ≡ 1 = omega arith in
     let p = cell_field (word / 4096) v 0 l.1 (omega (arith, l.0)) in
@@ -159,7 +160,7 @@ room_on_trail {n} {w} g (s ∷ ss) f =
     omega (
       arith,
       words_room g s f.0,
-      room_on_trail (step_graph g s f.0) ss f.1,
+      room_on_trail {w = apply w s} (step_graph g s f.0) ss f.1,
       length-append (step_words w s) (trail (apply w s) ss),
     )
 

@@ -4,7 +4,6 @@ use Rattle.buffers.specs.Map.{trail_room, at_names, unit}
 use Rattle.matching.specs.Graph.{put, dropped}
 use Rattle.slots.specs.Slots.{Holds, graph_of, low_of, high_of, live, Joins}
 use Rattle.matching.specs.Shapes.{IsRow, first}
-use Rattle.matching.specs.Find.{row}
 use Rattle.rows.specs.Row.{words_of_row}
 use Rattle.finding.specs.Rows.{inner_at}
 

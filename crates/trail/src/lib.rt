@@ -1,5 +1,7 @@
 // Inner, for the reduction: the row of a ring or a chain taken from the working graph onto the trail. See specs/Taking;
 // `words` has the words of the trail.
+#![tactic(auto)]
+
 pub mod words;
 
 ghost use Rattle.trail.specs.Taking.{RowThere, RowTaken, PairThere, PairTaken};

@@ -122,7 +122,8 @@ module _ {t number : ℕ} {w1 w2 : List ℕ} (h : UndoThere t number w1 w2) wher
       left = last_rest;
       fewer = omega (arith, last_some);
       trail =
-          words_same 0 (t - 1 - k) w2 w2' (λ j l. d.aside j (omega arith)) (omega (arith, h.rooms.most)) h.rooms.room2 l ∙ last_trail;
+          words_same 0 (t - 1 - k) w2 w2' (λ j l. d.aside j (omega arith)) (omega (arith, h.rooms.most)) h.rooms.room2 l
+          ∙ last_trail;
       mates =
           (subst (λ (x : Step). UndoneTable w2 w2' h.w x number h.from h.pairs) (sym e) d).mates;
     }

@@ -155,7 +155,8 @@ module _ {a v stamp : ℕ} {marks w2₀ : List ℕ} (p : PutThere a v stamp mark
       place_at : from_place i ≡ cond (eqb (get_or marks i 0) 1) ((from, to) ∷ from_place (suc i)) (from_place (suc i))
       place_at = ap₂ marked (drop-cons marks i 0 (omega (arith, h.most))) pairs_at
 
-      more_at : {w2' : List ℕ} → w2' ≡ cond (eqb (get_or marks i 0) 1) (joined from to stamp w2) w2 → Putting p i from w2'
+      more_at : {w2' : List ℕ} → w2' ≡ cond (eqb (get_or marks i 0) 1) (joined from to stamp w2) w2
+          → Putting p i from w2'
       more_at {w2'} q = record {
         most = omega (arith, h.most);
         same = ap length q ∙ len (eqb (get_or marks i 0) 1) ∙ h.same;

@@ -1,10 +1,11 @@
 -- The table of partners. In order: a pair that goes out of it (`mates_part`), and one that was not there
--- (`mates_without`), the words before the table staying as they are (`parted_aside`); whether two cells are partners, by the table (`table_held`), and whether a cell is free (`table_free`). Assumes nothing.
+-- (`mates_without`), the words before the table staying as they are (`parted_aside`); whether two cells are partners,
+-- by the table (`table_held`), and whether a cell is free (`table_free`). Assumes nothing.
 use mathlib.Core.Path.{◌≡◌, refl, sym, ap, ◌∙◌}
 use mathlib.Core.Logic.{◌⊎◌, inl, inr, ◌≢◌}
 use mathlib.Core.Bool.{Bool, cond}
-use mathlib.Core.List.{List, ◌∷◌}
-use Prim.Native.Nat.{ℕ, ◌+◌, ◌*◌, ◌%◌, ◌≤◌, ◌<◌}
+use mathlib.Core.List.{List}
+use Prim.Native.Nat.{ℕ, ◌+◌, ◌%◌, ◌≤◌, ◌<◌}
 use native.Mathlib.Omega.{arith}
 use lib.Dec.{eqb}
 use lib.ListN.{length, get_or}

@@ -1,5 +1,6 @@
 -- What the parts of undoing a step ask and leave. Inner contracts cite this.
-use Rattle.std.specs.Prelude.{◌≡◌, Bool, not, cond, ◌&&◌, ◌||◌, List, [], ◌∷◌, ◌++◌, ℕ, ◌+◌, ◌*◌, ◌≤◌, ◌<◌, length, set, take, drop}
+use Rattle.std.specs.Prelude.{◌≡◌, Bool, not, cond, ◌&&◌, ◌||◌, List, [], ◌∷◌, ◌++◌, ℕ, ◌+◌, ◌≤◌, ◌<◌}
+use Rattle.std.specs.Prelude.{length, set, take, drop}
 use Rattle.buffers.specs.Map.{trail_room, at_table, unit}
 use Rattle.matching.specs.Pairs.{Pair, Points, Each, keep, same, held}
 use Rattle.matching.specs.Pairing.{Pairing, Once}

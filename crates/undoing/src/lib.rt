@@ -1,5 +1,7 @@
 // Inner, for lifting: the way back through the steps on the trail, on the table of partners. See specs/Back, and
 // specs/Unwinding for its parts.
+#![tactic(auto)]
+
 ghost use Rattle.std.specs.Prelude.{◌≡◌, cond, List, ◌++◌, ◌≤◌, ◌<◌, eqb, length};
 ghost use Rattle.matching.specs.Pairs.{Pair, held};
 ghost use Rattle.matching.specs.Steps.{leaf, ring, chain};
@@ -66,7 +68,7 @@ fn are_partners(w2: &[u64], x: usize, y: usize) -> bool
 }
 
 // Which ends of a chain its part leaves free.
-#[derive(Drop)]
+#[derive(Clone, Copy)]
 struct Ends {
     less_u: bool,
     less_v: bool,

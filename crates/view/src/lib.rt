@@ -1,20 +1,22 @@
 // The view, which holds a lent list and serves its entries: the calls view_of, serve and entry_of. See specs/Serving.
+#![tactic(auto)]
+
 ghost use Rattle.std.specs.Prelude.{◌≡◌};
-ghost use Rattle.view.specs.Serving.{served, serving, shown as shownOf};
+ghost use Rattle.view.specs.Serving.{served, serving, shown as shown_of};
 
 use cellfile::decode;
 use checks;
 use checks::Checked;
 
 // The entry at a place, or nothing.
-#[derive(Drop)]
+#[derive(Clone, Copy)]
 pub enum Served {
     Entry { a: usize, b: usize, points: u64 },
     Nothing,
 }
 
 // A lent list, and how many entries it shows. `view_of` alone makes one.
-#[derive(Drop)]
+#[derive(Clone, Copy)]
 pub struct View<'a> {
     list: &'a [u8],
     count: usize,
@@ -22,7 +24,7 @@ pub struct View<'a> {
 
 // How many entries the list shows: none where refusals 2 to 6 say no.
 fn shown(list: &[u8]) -> usize
-    ensures { result ≡ shownOf list.now }
+    ensures { result ≡ shown_of list.now }
 {
     match checks::check_list(list) {
         Checked::Refused(_) => 0,
@@ -32,7 +34,7 @@ fn shown(list: &[u8]) -> usize
 
 // The entry at a place below the count. Whatever the count, it is read within the list.
 fn served_at(list: &[u8], count: usize, place: usize) -> Served
-    ensures { count ≡ shownOf list.now → served result ≡ serving list.now place }
+    ensures { count ≡ shown_of list.now → served result ≡ serving list.now place }
 {
     if count <= place {
         return Served::Nothing;
@@ -56,7 +58,7 @@ fn served_at(list: &[u8], count: usize, place: usize) -> Served
 
 // The view of the list.
 pub fn view_of<'a>(list: &'a [u8]) -> View<'a>
-    ensures { (result.list ≡ list.entry) × (result.count ≡ shownOf list.now) }
+    ensures { (result.list ≡ list.entry) × (result.count ≡ shown_of list.now) }
 {
     let count = shown(list);
     View { list, count }
@@ -64,7 +66,7 @@ pub fn view_of<'a>(list: &'a [u8]) -> View<'a>
 
 // The entry at a place of the view.
 pub fn serve<'a>(v: View<'a>, place: usize) -> Served
-    ensures { v.entry.count ≡ shownOf v.entry.list.now
+    ensures { v.entry.count ≡ shown_of v.entry.list.now
         → served result ≡ serving v.entry.list.now place }
 {
     served_at(v.list, v.count, place)

@@ -24,5 +24,6 @@ weight list pairing = points (entries_all list) (pairs_of pairing) ∷ []
 -- What weighing answers for the list, the pairing and the lengths of the work buffers lent.
 abbrev pub weighing : List ℕ → List ℕ → List ℕ → Answer
 weighing list pairing lent =
-    answer (first (call_rows (too_few_words lent) list ++ form_row (cells_of list) pairing ∷ pair_row list pairing ∷ []))
+    answer (first (call_rows (too_few_words lent) list
+    ++ form_row (cells_of list) pairing ∷ pair_row list pairing ∷ []))
     (weight list pairing)

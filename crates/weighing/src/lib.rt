@@ -1,4 +1,6 @@
 // Weighing a pairing of a store list: the call weigh.
+#![tactic(auto)]
+
 mod parts;
 
 ghost use Rattle.std.specs.Prelude.{◌≡◌};
@@ -10,7 +12,7 @@ use buffers;
 use checks;
 
 // The answer of weighing: a refusal's number, or the pairing's points.
-#[derive(Drop)]
+#[derive(Clone, Copy)]
 pub enum Weighed {
     Refused(u32),
     Points(u64),

@@ -1,6 +1,7 @@
 // Inner functions of weighing.
 ghost use Rattle.std.specs.Prelude.{◌≡◌, false, ◌∷◌, [], ◌++◌, ◌≤◌, length};
-ghost use Rattle.cellfile.specs.Files.{list_layout, pairing as pairing_layout, cells_of, count_of, entries_all, pairs_of};
+ghost use Rattle.cellfile.specs.Files.{list_layout, pairing as pairing_layout};
+ghost use Rattle.cellfile.specs.Files.{cells_of, count_of, entries_all, pairs_of};
 ghost use Rattle.cellfile.specs.Answers.{answer};
 ghost use Rattle.checks.specs.Refusals.{first, lists, list_rows, bad_pairing};
 ghost use Rattle.checks.specs.Calls.{call_rows, form_row};
@@ -39,9 +40,9 @@ fn matched(list: &[u8], m: usize, pairing: &[u8], k: usize) -> Weighed
 
 // Refusal 10 and the points of a pairing that has passed 9, for a list that has passed 2 to 6.
 fn weigh_pairs(list: &[u8], m: usize, pairing: &[u8], k: usize, w2: &mut [u64]) -> Weighed
-    requires list_value { (first (list_rows lists list.now) ≡ 0)
+    requires accepted { (first (list_rows lists list.now) ≡ 0)
         × (bad_pairing (cells_of list.now) pairing.now ≡ false) }
-    requires m_value { (m ≡ count_of list.now) × (k ≡ count_of pairing.now) × (8192 ≤ length w2.old) }
+    requires counts { (m ≡ count_of list.now) × (k ≡ count_of pairing.now) × (8192 ≤ length w2.old) }
     ensures { weighed result ≡ answer (first (pair_row list.now pairing.now ∷ []))
         (weight list.now pairing.now) }
 {

@@ -1,6 +1,8 @@
 // The worked lists that are compared by running the calls: those that concern sizes, each weighed with the empty
 // pairing; a list that no step shortens, reduced; a list whose points outgrow 20 bits, replayed; all pairs of 12 and of
 // 13 cells, solved.
+#![tactic(auto)]
+
 ghost use Rattle.std.specs.Prelude.{◌≡◌, ◌+◌, ◌*◌, ◌≤◌, length};
 
 use cellfile::decode;

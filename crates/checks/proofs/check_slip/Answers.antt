@@ -1,0 +1,34 @@
+-- `check_slip` answers refusal 7, or the count.
+use mathlib.Core.Path.{◌≡◌, sym, ◌∙◌}
+use mathlib.Core.Bool.{false}
+use Rattle.cellfile.specs.Files.{slip}
+use Rattle.checks.specs.Refusals.{misheaded}
+use Rattle.cellfile.proofs.Outputs.{plain_slip}
+use Rattle.checks.proofs.Parts.{head_whole, slip_head, slip_rest, row_holds, row_fails}
+use Rattle.checks.proofs.check_slip.Goals as goal
+
+pub returns-then-wrong_head : goal.returns-then-wrong_head
+returns-then-wrong_head c = row_holds 6 _ (slip_head _ _ _ (sym (c.wrong_head.ensures slip plain_slip)
+    ∙ c.if-wrong_head.true))
+
+pub no_rule-requires : goal.no_rule-requires
+no_rule-requires c =
+    let headed : misheaded slip c.args.n c.args.slip.now ≡ false =
+    sym (c.wrong_head.ensures slip plain_slip) ∙ c.if-wrong_head.false in
+    head_whole slip _ _ _ c.header_at-h.ensures (headed)
+
+pub returns-then-no_rule : goal.returns-then-no_rule
+returns-then-no_rule c =
+    let headed : misheaded slip c.args.n c.args.slip.now ≡ false =
+    sym (c.wrong_head.ensures slip plain_slip) ∙ c.if-wrong_head.false in
+    row_holds 6 _
+    (slip_rest _ _ _ (headed)
+    ∙ sym c.no_rule.ensures ∙ c.if-no_rule.true)
+
+pub returns : goal.returns
+returns c =
+    let headed : misheaded slip c.args.n c.args.slip.now ≡ false =
+    sym (c.wrong_head.ensures slip plain_slip) ∙ c.if-wrong_head.false in
+    row_fails 7 _ _ _ c.header_at-h.ensures
+    (slip_rest _ _ _ (headed)
+    ∙ sym c.no_rule.ensures ∙ c.if-no_rule.false)

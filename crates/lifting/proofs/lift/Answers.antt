@@ -1,0 +1,25 @@
+-- `lift` answers what `lift_in` answers, and clears both buffers.
+use mathlib.Core.Path.{ap, ◌∙◌}
+use Rattle.lifting.specs.Calls.{lift_rows}
+use Rattle.buffers.specs.Buffers.{lent, zeros}
+use Rattle.checks.proofs.Answering.{enough_words, framed}
+use Rattle.lifting.proofs.lift.Goals as goal
+
+pub lift_in-r-requires : goal.lift_in-r-requires
+lift_in-r-requires c = let a = c.args in
+    enough_words a.work_a.now a.work_b.now c.few_words-few.ensures
+
+pub returns : goal.returns
+returns c = let z = c.clear_both.ensures in
+    let a = c.args in
+    let f =
+    framed (lent a.work_a.now a.work_b.now) a.list.now (lift_rows a.list.now a.slip.now a.pairing.now)
+    c.few_words-few.ensures
+    c.lift_in-r.ensures in record {
+      answer = f.0;
+      outputs = (f.1.0, f.1.1.0);
+      cleared = (
+        z.0 ∙ ap zeros c.lift_in-r.auto.w1,
+        z.1 ∙ ap zeros c.lift_in-r.auto.w2,
+      );
+    }

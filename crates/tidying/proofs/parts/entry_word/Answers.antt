@@ -1,0 +1,12 @@
+-- `entry_word` packs an entry, its lower cell first.
+use Rattle.std.proofs.Common.{arith}
+use Rattle.cellfile.specs.Fields.{packed}
+use Rattle.tidying.proofs.parts.entry_word.Goals as goal
+
+pub returns-then-y-x : goal.returns-then-y-x
+unfolding packed
+returns-then-y-x c = omega arith
+
+pub returns : goal.returns
+unfolding packed
+returns c = omega arith

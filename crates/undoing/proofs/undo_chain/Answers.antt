@@ -1,0 +1,21 @@
+-- `undo_chain` takes the pair that the step put out of the table, clears the marks, marks the part to put in,
+-- and puts it.
+use mathlib.Core.Path.{◌∙◌}
+use Rattle.undoing.proofs.Undoing.{chain_below, chain_asks, chain_put, chain_back}
+use Rattle.undoing.proofs.undo_chain.Goals as goal
+
+pub free_chain-ends-requires : goal.free_chain-ends-requires
+free_chain-ends-requires c = chain_below c.requires
+
+pub mark_chain-requires : goal.mark_chain-requires
+mark_chain-requires c = chain_asks c.requires c.free_chain-ends.ensures c.free_chain-ends.auto.w2
+    c.clear.ensures
+
+pub put_marked-requires : goal.put_marked-requires
+put_marked-requires c = chain_put c.requires c.free_chain-ends.ensures c.free_chain-ends.auto.w2
+    c.mark_chain.new.marks (c.mark_chain.auto.marks ∙ c.clear.auto.work) c.mark_chain.ensures
+
+pub returns : goal.returns
+returns c b = chain_back b c.free_chain-ends.ensures c.free_chain-ends.auto.w2
+    c.mark_chain.new.marks (c.mark_chain.auto.marks ∙ c.clear.auto.work) c.mark_chain.ensures
+    c.put_marked.ensures
