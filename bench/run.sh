@@ -26,7 +26,7 @@ lemon_flags() {
 
 # The archive, then the benchmark.
 build() {
-    rt staticlib cells_c > "$out/build.log" 2>&1 || { cat "$out/build.log" >&2; exit 1; }
+    (cd crates/cells_c && rt lib) > "$out/build.log" 2>&1 || { cat "$out/build.log" >&2; exit 1; }
     flags=$(lemon_flags)
     if [ -n "$flags" ]; then
         echo "LEMON is installed: its times stand beside ours."
@@ -35,7 +35,7 @@ build() {
     fi
     # The archive stands right behind place.s, which fixes the place of its code.
     g++ -std=c++17 -O3 -DNDEBUG $flags -Iinclude -o "$out/bench" bench/place.s \
-        -Wl,--whole-archive target/staticlib/libcells_c.a -Wl,--no-whole-archive bench/main.cpp
+        -Wl,--whole-archive crates/cells_c/out/libcells_c.a -Wl,--no-whole-archive bench/main.cpp
 }
 
 # The day, the machine, how busy it was before the run, and the compiler.

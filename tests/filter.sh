@@ -5,7 +5,7 @@
 set -eu
 out=target/tests/filter
 mkdir -p "$out"
-gcc -std=c11 -O2 -Wall -Wextra -Werror -Iinclude tools/tidy.c target/staticlib/libcells_c.a -o "$out/tidy"
+gcc -std=c11 -O2 -Wall -Wextra -Werror -Iinclude tools/tidy.c crates/cells_c/out/libcells_c.a -o "$out/tidy"
 
 # Ends the test with a message.
 fail() {
@@ -32,7 +32,7 @@ python3 tools/cells.py raw < samples/rig.txt > "$out/rig.raw"
 same "$out/rig.raw" samples/rig.raw "the raw list of the sample's text"
 "$out/tidy" < "$out/rig.raw" > "$out/rig.bin"
 same "$out/rig.bin" samples/rig.bin "the store list of the sample"
-target/bin/pairing < "$out/rig.bin" > "$out/printed"
+crates/pairing/out/pairing < "$out/rig.bin" > "$out/printed"
 sed -n '/For `rig.bin` the program prints:/,/total/s/^      //p' samples/README.md | sed '/^$/d' > "$out/expected"
 same "$out/printed" "$out/expected" "the text that samples/README.md has"
 

@@ -32,7 +32,7 @@ use inputs::{Entry, Form, Random};
 use printed::{printed, MOST_READ};
 use rows::{all_pairs, first_pairs, list, raw_list, FIRST_LIST};
 
-const PROGRAM: &str = "target/bin/pairing";
+const PROGRAM: &str = "crates/pairing/out/pairing";
 const SEED: u64 = 20_180_820;
 const LISTS: u64 = 450;
 /// The pause between two pieces of an input.

@@ -1,6 +1,7 @@
 /* A filter: reads a raw list (kind 6) from standard input and writes the store list that cells_tidy makes of it.
  *
- *     gcc -Iinclude tools/tidy.c target/staticlib/libcells_c.a -o target/tidy
+ *     mkdir -p target
+ *     gcc -Iinclude tools/tidy.c crates/cells_c/out/libcells_c.a -o target/tidy
  *     target/tidy < rig.raw > rig.bin
  *
  * A refusal is written to standard error as 'refused' with its number, and the exit status is 1. It is 2 where
