@@ -38,12 +38,13 @@ build() {
         -Wl,--whole-archive crates/cells_c/out/libcells_c.a -Wl,--no-whole-archive bench/main.cpp
 }
 
-# The day, the machine, how busy it was before the run, and the compiler.
+# The day, the machine, how busy it was before the run, and the compilers.
 load=$(cut -d ' ' -f 1 /proc/loadavg)
 machine() {
     model=$(sed -n 's/^model name[[:space:]]*: //p' /proc/cpuinfo | head -n 1)
     echo "Measured on $(date +%Y-%m-%d) on $(nproc) cores (${model:-unknown processor}), which had a load of $load before"
-    echo "the run (0 is a quiet machine); compiled with $(g++ --version | head -n 1)."
+    echo "the run (0 is a quiet machine); compiled with $(g++ --version | head -n 1);"
+    echo "the archive by $(rt version | cut -d ' ' -f 1)."
 }
 
 # Puts what was measured between the two marks of this name in docs/PERFORMANCE.md.
