@@ -12,7 +12,7 @@ use Rattle.buffers.proofs.clear.Goals as goal
 
 pub loop-i-preserved : goal.loop-i-preserved
 loop-i-preserved c =
-    let i = c.before.loop-i.i in
+    let i = c.loop-i.i in
     let w = c.args.work.now in
     let h : i < length w = omega arith in
     (omega arith, search rules, ap (λ (l : List ℕ). set l i 0) c.loop-i.invariant.2 ∙ fill_more i 0 w h)

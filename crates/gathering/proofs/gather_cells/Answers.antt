@@ -6,6 +6,13 @@ use lib.ListN.{length-set}
 use Rattle.gathering.proofs.Gathering.{walk_first, walk_none, walk_low, walk_more, walk_crowded}
 use Rattle.gathering.proofs.Gathering.{walk_all}
 use Rattle.gathering.proofs.gather_cells.Goals as goal
+use Rattle.gathering.proofs.gather_cells.Goals.{In-loop-p}
+
+-- the link at hand is a cell's
+low : (c : In-loop-p) → c.loop-p.p ≤ 1024
+low c =
+    let t = c.requires in
+    walk_low t.1 (c.loop-p.invariant.2 t.0 t.1) c.loop-p-test.true
 
 pub overflow_add-p : goal.overflow_add-p
 overflow_add-p c = omega (arith, walk_first c.requires.1)
@@ -17,22 +24,15 @@ pub returns-then-k-ge-MOST : goal.returns-then-k-ge-MOST
 returns-then-k-ge-MOST c = λ cs h. walk_crowded h (c.loop-p.invariant.2 cs h) c.loop-p-test.true c.if-k-ge-MOST.true
 
 pub overflow_add-p-in-loop-p : goal.overflow_add-p-in-loop-p
-overflow_add-p-in-loop-p c =
-    let t = c.requires in
-    let low : c.loop-p.p ≤ 1024 = walk_low t.1 (c.loop-p.invariant.2 t.0 t.1) c.loop-p-test.true in
-    omega (arith, low)
+overflow_add-p-in-loop-p c = omega (arith, low (goal.at.overflow_add-p-in-loop-p c).In-loop-p)
 
 pub offset_bounds-w2-c : goal.offset_bounds-w2-c
-offset_bounds-w2-c c =
-    let t = c.requires in
-    let low : c.loop-p.p ≤ 1024 = walk_low t.1 (c.loop-p.invariant.2 t.0 t.1) c.loop-p-test.true in
-    omega (arith, low)
+offset_bounds-w2-c c = omega (arith, low (goal.at.offset_bounds-w2-c c).In-loop-p)
 
 pub bounds-w2-c : goal.bounds-w2-c
 bounds-w2-c c =
-    let t = c.requires in
-    let low : c.loop-p.p ≤ 1024 = walk_low t.1 (c.loop-p.invariant.2 t.0 t.1) c.loop-p-test.true in
-    rw length-set (omega (arith, low, c.loop-p.invariant.1, c.requires.1.room2))
+    let p = low (goal.at.bounds-w2-c c).In-loop-p in
+    rw length-set (omega (arith, p, c.loop-p.invariant.1, c.requires.1.room2))
 
 pub loop-p-preserved : goal.loop-p-preserved
 loop-p-preserved c =

@@ -1,10 +1,12 @@
 -- `print_in` prints what reduce refuses, or what `print_paired` prints.
-use mathlib.Core.Path.{sym, ap, ◌∙◌}
+use mathlib.Core.Path.{◌≡◌, sym, ap, ◌∙◌}
 use mathlib.Core.List.{[]}
+use Prim.Native.Nat.{◌≤◌}
 use native.Mathlib.Omega.{arith}
 use lib.ListN.{length}
 use lib.Seq.{length-take-le}
-use Rattle.reduction.specs.Calls.{short_file}
+use Rattle.checks.specs.Refusals.{first, lists, list_rows}
+use Rattle.reduction.specs.Calls.{slip_file, short_file}
 use Rattle.cellfile.specs.Answers.{written}
 use Rattle.checks.specs.Calls.{answered}
 use Rattle.starting.specs.Steps.{reduce_steps}
@@ -14,32 +16,36 @@ use Rattle.report.proofs.Fields.{short_most}
 use Rattle.report.proofs.Making.{line_ends}
 use Rattle.report.proofs.Printing.{written_start, never_one, reduce_refuses, reduce_passes}
 use Rattle.report.proofs.print_in.Goals as goal
+use Rattle.report.proofs.print_in.Goals.{In-Two}
 
-pub slice_bounds-print_paired-end : goal.slice_bounds-print_paired-end
-slice_bounds-print_paired-end c =
+-- reduce has taken the list and answers the lengths of the slip and of the short list, which the output has room for
+reduced : (c : In-Two)
+    → (first (list_rows lists c.args.list.now) ≡ 0)
+    × (c.in-Two.first ≡ length (slip_file c.args.list.now (reduce_steps c.args.list.now)))
+    × (c.in-Two.second ≡ length (short_file c.args.list.now (reduce_steps c.args.list.now)))
+reduced c =
     let a = c.args in
     let s = c.requires in
-    let p =
     reduce_passes a.list.now (length a.work_a.now) (length a.work_b.now) s.0 s.1 (length a.slip.now)
-    (length a.short.now) (ap answered (sym c.in-Two.is) ∙ c.reduce.ensures.answer) in
-    omega (arith, p.2, short_most a.list.now p.0, c.reduce.auto.short, s.3)
+    (length a.short.now) (ap answered (sym c.in-Two.is) ∙ c.reduce.ensures.answer)
+
+fits : (c : In-Two) → c.in-Two.second ≤ length c.reduce.new.short
+fits c =
+    let p = reduced c in
+    omega (arith, p.2, short_most c.args.list.now p.0, c.reduce.auto.short, c.requires.3)
+
+pub slice_bounds-print_paired-end : goal.slice_bounds-print_paired-end
+slice_bounds-print_paired-end c = omega (arith, fits (goal.at.slice_bounds-print_paired-end c).In-Two)
 
 pub slice_bounds-print_paired-end-in-Two : goal.slice_bounds-print_paired-end-in-Two
 slice_bounds-print_paired-end-in-Two c =
-    let a = c.args in
-    let s = c.requires in
-    let p =
-    reduce_passes a.list.now (length a.work_a.now) (length a.work_b.now) s.0 s.1 (length a.slip.now)
-    (length a.short.now) (ap answered (sym c.in-Two.is) ∙ c.reduce.ensures.answer) in
-    sym (length-take-le _ _ (omega (arith, p.2, short_most a.list.now p.0, c.reduce.auto.short, s.3)))
+    sym (length-take-le _ _ (fits (goal.at.slice_bounds-print_paired-end-in-Two c).In-Two))
 
 pub print_paired-requires : goal.print_paired-requires
 print_paired-requires c =
     let a = c.args in
     let s = c.requires in
-    let p =
-    reduce_passes a.list.now (length a.work_a.now) (length a.work_b.now) s.0 s.1 (length a.slip.now)
-    (length a.short.now) (ap answered (sym c.in-Two.is) ∙ c.reduce.ensures.answer) in
+    let p = reduced (goal.at.print_paired-requires c).In-Two in
     let file = short_file a.list.now (reduce_steps a.list.now) in (
       record {
         accepted = p.0;

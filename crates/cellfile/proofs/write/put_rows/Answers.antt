@@ -24,7 +24,7 @@ loop-i-preserved c = let l = c.loop-i in
     let a = c.args in (
       omega arith,
       omega arith,
-      c.out-1.given.1 ∙ l.invariant.2,
+      omega (arith, l.invariant),
       λ es h. run_next 8 (map word_of_short es) a.out.now l.invariant.1
           (omega (arith, h.count, length-map es word_of_short, c.loop-i-test.true))
           (c.short_word.ensures ∙ row_word h l.i c.loop-i-test.true)

@@ -15,5 +15,5 @@ write_words-requires-2 c = ((origin_list, plain_origins, search rules), omega ar
 pub returns : goal.returns
 returns c = let a = c.args in
     both_written a.n a.r a.w1.now a.out.now a.origins.now c.requires.1 c.requires.2
-    c.if-out-size.false c.if-origins-origin_size.false (c.write_words.ensures pairing plain_pairing)
+    (omega arith) (omega arith) (c.write_words.ensures pairing plain_pairing)
     (c.write_words-2.ensures origin_list plain_origins)
