@@ -1,14 +1,13 @@
 -- Where no leaf is left by a step. In order: a leaf, a ring and a chain change no points of a cell that is not theirs
 -- (`leaf_else`, `ring_else`, `chain_else`); so a cell below all of theirs has the degree that it had (`leaf_quiet`,
--- `ring_quiet`, `chain_quiet`); the partners of a cell over its slots (`Lows`; `looked_live`, `looked_gone`;
--- `lows_start`, `lows_on`, `lows_end`); by what is told of a step (`quieted_leaf`, `quieted_ring`, `quieted_chain`,
--- `quieted_none`). Assumes nothing.
+-- `ring_quiet`, `chain_quiet`); the partners of a cell over its slots (`Lows`, `lows_end`);
+-- by what is told of a step (`quieted_leaf`, `quieted_ring`, `quieted_chain`). Assumes nothing.
 use mathlib.Core.Path.{◌≡◌, refl, sym, ap, ◌∙◌}
 use mathlib.Core.Logic.{◌⊎◌, inl, inr, ◌≢◌}
 use mathlib.Core.Bool.{Bool, true, false, cond}
 use mathlib.Core.List.{List}
 use mathlib.Core.Option.{some}
-use Prim.Native.Nat.{ℕ, suc, ◌-◌, ◌≤◌, ◌<◌, min}
+use Prim.Native.Nat.{ℕ, suc, ◌-◌, ◌≤◌, ◌<◌}
 use native.Mathlib.Omega.{arith}
 use lib.ListN.{get_or}
 use Rattle.matching.specs.Lists.{mem}
@@ -18,21 +17,18 @@ use Rattle.matching.specs.Steps.{Rule, by_leaf, by_ring, by_chain, Step, leaf, r
 use Rattle.matching.specs.Steps.{apply}
 use Rattle.matching.specs.Shapes.{IsRow, IsLeaf, IsRing, IsChain, IsStep, Lowest}
 use Rattle.matching.proofs.Tests.{Test, pass, fail, is_test, lt_test, fails}
-use Rattle.matching.proofs.Members.{clash}
 use Rattle.matching.proofs.Sums.{touches_test}
 use Rattle.matching.proofs.Put.{dropped_out, dropped_most}
 use Rattle.matching.proofs.Rows.{AtEnd, is_run, run_outer}
 use Rattle.matching.proofs.Find.{is_fits}
 use Rattle.cellfile.specs.Answers.{Answer}
-use Rattle.slots.specs.Slots.{Holds, graph_of, low_of, high_of, Joins}
-use Rattle.slots.specs.Found.{LastSlot}
+use Rattle.slots.specs.Slots.{graph_of, low_of, high_of, Joins}
 use Rattle.slots.proofs.Degrees.{degree_same}
-use Rattle.slots.proofs.Scanning.{joins_turned, joins_some, joins_has, slots_on}
+use Rattle.slots.proofs.Scanning.{joins_turned, joins_some}
 use Rattle.finding.specs.Finding.{told, to_tell, Quiet}
 use Rattle.bounds.specs.Bounds.{Near, Quieted}
 use Rattle.finding.specs.declared.Step as declared
 use Rattle.finding.specs.declared.Step.TheVariants as found
-use Rattle.finding.proofs.Scans.{joins_same}
 use Rattle.finding.proofs.Gone.{put_away}
 
 -- ---- the points of a cell that is not in the step
@@ -120,40 +116,7 @@ pub record Lows (e : ℕ) (w1 : List ℕ) (u low least i : ℕ) : Type 0 where
   pub cell : least ≤ u
   pub past : (j f : ℕ) → i ≤ j → Joins e w1 j u f → least ≤ f
 
--- `least'` is what `least` becomes where slot k of u is looked at.
-abbrev pub Looked : ℕ → List ℕ → ℕ → ℕ → ℕ → ℕ → Type 0
-Looked e w1 u k least least' = (least' ≤ least) × ((f : ℕ) → Joins e w1 k u f → least' ≤ f)
-
-pub looked_live : {e : ℕ} {w1 w2 : List ℕ} → Holds e w1 w2 → {u k p least r least' : ℕ} → Joins e w1 k u p
-    → r ≡ min least p → least' ≡ r → Looked e w1 u k least least'
-looked_live h j l q = (omega arith, λ f x. omega (arith, joins_same h j x))
-
-pub looked_gone : {e : ℕ} {w1 : List ℕ} {u k least least' : ℕ} → get_or w1 k 0 ≡ 0 → least' ≡ least
-    → Looked e w1 u k least least'
-looked_gone z q = (omega arith, λ f x. absurd (omega (arith, x.live)))
-
 module _ {e : ℕ} {w1 : List ℕ} {u low : ℕ} where
-  pub lows_start : {least i : ℕ} → LastSlot w1 u e i → least ≤ low → least ≤ u → Lows e w1 u low least i
-  lows_start l a b = record {
-    top = l.low;
-    has = l.at;
-    most = a;
-    cell = b;
-    past = λ j f m k. clash (joins_has k) (l.past j m k.below);
-  }
-
-  -- slot k is looked at
-  pub lows_on : {least k : ℕ} → Lows e w1 u low least (suc k) → {least' : ℕ} → Looked e w1 u k least least'
-      → {i : ℕ} → LastSlot w1 u k i → Lows e w1 u low least' i
-  lows_on {least} {k} n {least'} (a, here) {i} l = record {
-    top = omega (arith, l.low, n.top);
-    has = l.at;
-    most = omega (arith, n.most);
-    cell = omega (arith, n.cell);
-    past = λ j f m. slots_on l (λ j. (f : ℕ) → Joins e w1 j u f → least' ≤ f)
-        (λ j o f x. clash (joins_has x) o) here (λ j b f x. omega (arith, n.past j f (omega arith) x)) j m f;
-  }
-
   -- no slot is left
   pub lows_end : {least : ℕ} → Lows e w1 u low least 0 → Near (graph_of e w1) u low least
   lows_end {least} n = record {
@@ -168,10 +131,6 @@ module _ {e : ℕ} {w1 : List ℕ} {u low : ℕ} where
           let j = joins_some e w1 c u h in
           absurd (omega (arith, n.past j.0 c (omega arith) (joins_turned j.1)))
       none c l (fail h) = omega arith
-
--- 0 is not above anything
-pub near_zero : {w : Points} {u low : ℕ} → Near w u low 0
-near_zero = record { most = omega arith; cell = omega arith; apart = λ c l. absurd (omega arith) }
 
 -- ---- what is told of a step
 
@@ -218,11 +177,3 @@ module _ {w : Points} {x : declared.Step} {low r : ℕ} where
           chain_quiet g p.1 a (omega arith) (omega arith) k
       go (leaf u' v) rule c t p = absurd (omega (arith, ap (λ (y : Answer). y.0) t))
       go (ring u' z' inner) rule c t p = absurd (omega (arith, ap (λ (y : Answer). y.0) t))
-
-  pub quieted_none : x ≡ found.None → Quieted w x low r
-  quieted_none e s t q p g k = absurd (go s (sym (ap told e) ∙ t))
-    where
-      go : (s : Step) → told found.None ≡ to_tell (some s) → ⊥
-      go (leaf u v) t = omega (arith, ap (λ (y : Answer). y.0) t)
-      go (ring u z inner) t = omega (arith, ap (λ (y : Answer). y.0) t)
-      go (chain u v z inner) t = omega (arith, ap (λ (y : Answer). y.0) t)

@@ -1,5 +1,5 @@
 -- The bounds of the search: below them no cell is a leaf, none is named by a ring step. Inner contracts cite this.
-use Rattle.std.specs.Prelude.{◌≡◌, ◌⊎◌, ℕ, ◌≤◌, ◌<◌}
+use Rattle.std.specs.Prelude.{◌≡◌, ℕ, ◌≤◌, ◌<◌}
 use Rattle.std.proofs.Math.Option.{some}
 use Rattle.matching.specs.Pairs.{Points}
 use Rattle.matching.specs.Graph.{Graph}
@@ -29,7 +29,3 @@ abbrev pub RingQuieted : Points → declared.Step → ℕ → ℕ → Type 0
 RingQuieted w x low r =
     (s : Step) → told x ≡ to_tell (some s) → (q : Rule × ℕ) → IsStep 1024 w q.0 q.1 s → Graph 1024 w
     → LowestRing w s → RingQuiet low w → RingQuiet r (apply w s)
-
--- The bound for rings stays where the last of the k steps was reduce's and no run came behind it; else it is 0.
-abbrev pub RingsLeft : ℕ → ℕ → ℕ → ℕ → ℕ → Type 0
-RingsLeft m k steps rings r = (r ≡ 0) ⊎ ((m < k) × (steps ≡ 0) × (r ≡ rings))

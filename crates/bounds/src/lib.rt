@@ -1,105 +1,91 @@
 // Inner, for the reduction: the bounds of the search, kept from step to step. See specs/Bounds.
 #![tactic(auto)]
 
-ghost use Rattle.std.specs.Prelude.{◌≡◌, ◌<◌, min};
-ghost use Rattle.matching.specs.Graph.{degree};
-ghost use Rattle.slots.specs.Slots.{Holds, graph_of};
-ghost use Rattle.bounds.specs.Bounds.{Quieted, Near, RingQuieted, RingsLeft};
+ghost use Rattle.std.specs.Prelude.{◌≡◌, ◌⊎◌, true, ◌<◌};
+ghost use Rattle.slots.specs.Working.{graph_in};
+ghost use Rattle.bounds.specs.Bounds.{Near, Quieted, RingQuieted};
 
 use finding::Step;
-use slots::read;
+use slots::graph::WorkingGraph;
 
-// The lower of two numbers.
-pub fn lower(a: usize, b: usize) -> usize
-    ensures { result ≡ min a b }
-{
-    if a < b {
-        return a;
-    }
-    b
+// No cell below `low` is a leaf, none below `rings` is named by a ring step.
+#[derive(Clone, Copy)]
+pub struct Bounds {
+    pub low: usize,
+    pub rings: usize,
 }
 
 // How many slots of a cell are looked at for its lowest partner.
 const LOOKED_AT: usize = 16;
 
+// No graph has more cells.
+const CELLS: usize = 1024;
+
 // A number not above `low`, u and any partner of u; 0 where u has many slots.
-fn lowest_near(w1: &[u64], w2: &[u64], e: usize, u: usize, low: usize) -> usize
-    requires { (Holds e w1.now w2.now) × (u < 1024) }
-    ensures { Near (graph_of e w1.now) u low result }
+fn lowest_near(graph: &WorkingGraph, u: usize, low: usize) -> usize
+    requires { u < 1024 }
+    ensures { Near (graph_in graph.now) u low result }
 {
-    let mut least = lower(low, u);
-    let mut left = LOOKED_AT;
-    let mut i = read::last_slot(w1, w2, e, u);
-    while 0 < i {
-        if left == 0 {
-            return 0;
+    let mut least = low.min(u);
+    let mut next = graph.last_slot(u);
+    for _ in 0..LOOKED_AT {
+        let Some(i) = next else {
+            return least;
+        };
+        if graph.w1[i] != 0 {
+            least = least.min(graph.partner(u, i));
         }
-        left -= 1;
-        i -= 1;
-        if w1[i] != 0 {
-            least = lower(least, read::partner(w1, w2, e, u, i));
-        }
-        i = read::slot_before(w1, w2, e, u, i);
+        next = graph.slot_before(u, i);
     }
-    least
+    match next {
+        Some(_) => 0,
+        None => least,
+    }
 }
 
 // Below this cell no leaf is left by a step, where there was none below `low` before it.
-pub fn quiet_after(w1: &[u64], w2: &[u64], e: usize, step: Step, low: usize) -> usize
-    requires { Holds e w1.now w2.now }
-    ensures { Quieted (graph_of e w1.now) step low result }
+fn quiet_after(graph: &WorkingGraph, step: Step, low: usize) -> usize
+    ensures { Quieted (graph_in graph.now) step low result }
 {
     match step {
-        Step::Leaf { v, u } => {
-            if 1024 <= u {
-                return 0;
-            }
-            lowest_near(w1, w2, e, u, lower(low, v))
-        }
-        Step::Ring { u, z } => lower(low, lower(u, z)),
-        Step::Chain { u, v: _, z } => lower(low, lower(u, z)),
-        Step::None => low,
+        Step::Leaf { v, u } if u < CELLS => lowest_near(graph, u, low.min(v)),
+        Step::Leaf { .. } => 0,
+        Step::Ring { u, z } => low.min(u.min(z)),
+        Step::Chain { u, v: _, z } => low.min(u.min(z)),
     }
 }
 
 // Below this cell no ring step is named after a step, where none was below `rings` before it.
-pub fn rings_after(w1: &[u64], w2: &[u64], e: usize, step: Step, rings: usize) -> usize
-    requires { Holds e w1.now w2.now }
-    ensures { RingQuieted (graph_of e w1.now) step rings result }
+fn rings_after(graph: &WorkingGraph, step: Step, rings: usize) -> usize
+    ensures { RingQuieted (graph_in graph.now) step rings result }
 {
     match step {
-        Step::Leaf { v: _, u } => {
-            if 1024 <= u {
-                return 0;
-            }
-            if read::degree(w1, w2, e, u) != 1 {
-                return 0;
-            }
-            rings
-        }
-        Step::Ring { u, z } => {
-            if 1024 <= u {
-                return 0;
-            }
-            if read::degree(w1, w2, e, u) != 2 {
-                return 0;
-            }
-            z
-        }
+        Step::Leaf { v: _, u } if u < CELLS && graph.degree(u) == 1 => rings,
+        Step::Ring { u, z } if u < CELLS && graph.degree(u) == 2 => z,
         _ => 0,
     }
 }
 
-// The bound for rings after k steps, of which the last before a run of `steps` leaf steps left the bound `rings`: it
-// stays where reduce took that step and there was no run.
-pub fn rings_left(m: usize, k: usize, steps: usize, rings: usize) -> usize
-    ensures { RingsLeft m k steps rings result }
-{
-    if k <= m {
-        return 0;
+impl Bounds {
+    // The bounds after a step.
+    pub fn after(self, graph: &WorkingGraph, step: Step) -> Bounds
+        ensures leaves { Quieted (graph_in graph.now) step self.low result.low }
+        ensures rings { RingQuieted (graph_in graph.now) step self.rings result.rings }
+    {
+        Bounds {
+            low: quiet_after(graph, step, self.low),
+            rings: rings_after(graph, step, self.rings),
+        }
     }
-    if steps != 0 {
-        return 0;
+
+    // The bound for rings stays, or goes.
+    pub fn rings_left(self, stay: bool) -> Bounds
+        ensures low { result.low ≡ self.low }
+        ensures rings { (result.rings ≡ 0) ⊎ ((stay ≡ true) × (result.rings ≡ self.rings)) }
+    {
+        Bounds {
+            low: self.low,
+            rings: if stay { self.rings } else { 0 },
+        }
     }
-    rings
 }

@@ -9,11 +9,7 @@ ghost use Rattle.buffers.specs.Buffers.{Cleared};
 pub fn clear(work: &mut [u64])
     ensures { Cleared work.old work.new }
 {
-    let mut i = 0;
-    while i < work.len() {
-        work[i] = 0;
-        i += 1;
-    }
+    work.fill(0);
 }
 
 // Every word of both buffers that a call is lent is zero afterwards.

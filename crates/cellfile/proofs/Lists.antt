@@ -18,9 +18,10 @@ use Rattle.cellfile.specs.Fields.{fields, read_record, read_records, size}
 use Rattle.cellfile.specs.Files.{Layout, store_list, raw_list, slip, pairing, start, file_length, kind_of, cells_of}
 use Rattle.cellfile.specs.Files.{count_of, read_entries, as_entry, list_layout, entries_all, in_view}
 use Rattle.cellfile.specs.Fits.{WholeBytes}
-use Rattle.cellfile.specs.Reads.{entry_fields, EntryAt, EntryRead, EntryThere, ShapeRead, points_top}
+use Rattle.cellfile.specs.Reads.{entry_fields, EntryAt, EntryRead, WholeFile, place_of, points_top}
+use Rattle.cellfile.specs.Shapes.{ShapeRead}
 use Rattle.cellfile.specs.declared.decode.Entry.{Entry}
-use Rattle.cellfile.specs.declared.decode.Shape.{Shape}
+use Rattle.cellfile.specs.declared.records.Shape.{Shape}
 use Rattle.cellfile.proofs.Walk.{rest_from, from_place, record_at_is, place_fits}
 
 -- ---- the fields by the record's number
@@ -43,15 +44,15 @@ entry_fields_is k s {v} g l e =
     let whole : (10 + (10 + (p + 0))) / 8 ≡ k = omega arith in
     rw (whole, ← e, shifted k l, z, t, ← shr-shr v p 10, div-one v)
 
-pub step_fields : (s : List ℕ) {v : ℕ} → v ≡ number 2 s
+pub step_fields_are : (s : List ℕ) {v : ℕ} → v ≡ number 2 s
     → (v / 1024 % 64 ∷ v % 1024 ∷ []) ≡ read_record slip.entry s
 unfolding fields
-step_fields s {v} e = rw (← e, div-one v)
+step_fields_are s {v} e = rw (← e, div-one v)
 
-pub pair_fields_is : (s : List ℕ) {v : ℕ} → v ≡ number 3 s
+pub pair_fields_are : (s : List ℕ) {v : ℕ} → v ≡ number 3 s
     → (v / 16384 % 1024 ∷ v / 16 % 1024 ∷ v % 16 ∷ []) ≡ read_record pairing.entry s
 unfolding fields
-pair_fields_is s {v} e = rw (← e, div-one v)
+pair_fields_are s {v} e = rw (← e, div-one v)
 
 -- ---- lists
 
@@ -117,42 +118,39 @@ points_fit : (s t : List ℕ) → get_or (read_record (list_layout s).entry t) 2
 unfolding fields
 points_fit s t = rw (layout_is s).1 (omega arith)
 
--- an entry is in the list
-pub entry_place : (s : List ℕ) (shape : Shape) (i : ℕ) → EntryThere s shape i
-    → (shape.start + shape.bytes * i + shape.bytes ≤ length s) × (shape.bytes * i ≤ 65536)
-entry_place s shape i t =
-    let f = place_fits (list_layout s) s i t.there in
-    let b = mul-le-mul_right {m = shape.bytes} {n = 8} 8191 t.shaped.most in (
-      rw (t.shaped.start, t.shaped.bytes) f.0,
-      omega (arith, b, ap (λ k. k * i) t.shaped.bytes, ap (λ k. k * 8191) t.shaped.bytes),
-    )
+-- an entry of a list with m of them
+module _ (s : List ℕ) (r : Shape) {m : ℕ} (i : ℕ) (shaped : ShapeRead s r) (whole : WholeFile (list_layout s) s m)
+    (below : i < m) where
+  -- is in the list
+  pub entry_place : (r.start + r.bytes * i + r.bytes ≤ length s) × (r.bytes * i ≤ 65536)
+  entry_place =
+      let f = place_fits (list_layout s) s i whole below in
+      let b = mul-le-mul_right {m = r.bytes} {n = 8} 8191 shaped.most in (
+        rw (shaped.start, shaped.bytes) f.0,
+        omega (arith, b, ap (λ k. k * i) shaped.bytes, ap (λ k. k * 8191) shaped.bytes, f.1),
+      )
 
--- the entry at a place, by the record read there
-pub entry_is : (s : List ℕ) (shape : Shape) (i : ℕ) (e : Entry) → EntryThere s shape i
-    → EntryAt shape.bytes (rest_from (shape.start + shape.bytes * i) s) e → EntryRead s i e
-unfolding entries_all
-entry_is s shape i e t r = record {
-  is = ap as_entry here ∙ sym (get_or-map as_entry (read_entries (list_layout s) s) i []);
-  a_fits = r.a_fits;
-  b_fits = r.b_fits;
-  points_fit = rw (ap (λ rs. get_or rs 2 0) (read ∙ fields_are)) (points_fit s _);
-}
-  where
-    at : ℕ
-    at = start (list_layout s) (cells_of s) + size (list_layout s).entry * i
+  -- is that which is read there
+  pub entry_is : (e : Entry) → EntryAt r.bytes (rest_from (r.start + r.bytes * i) s) e → EntryRead s i e
+  unfolding entries_all
+  entry_is e h = record {
+    is = ap as_entry here ∙ sym (get_or-map as_entry (read_entries (list_layout s) s) i []);
+    a_fits = h.a_fits;
+    b_fits = h.b_fits;
+    points_fit = rw (ap (λ rs. get_or rs 2 0) (read ∙ fields_are)) (points_fit s _);
+  }
+    where
+      read : (e.a ∷ e.b ∷ e.points ∷ []) ≡ read_record (entry_fields r.bytes) (drop (r.start + r.bytes * i) s)
+      read = h.is ∙ rw (from_place (r.start + r.bytes * i) s)
 
-    read : (e.a ∷ e.b ∷ e.points ∷ [])
-        ≡ read_record (entry_fields shape.bytes) (drop (shape.start + shape.bytes * i) s)
-    read = r.is ∙ rw (from_place (shape.start + shape.bytes * i) s)
+      fields_are : read_record (entry_fields r.bytes) (drop (r.start + r.bytes * i) s)
+          ≡ read_record (list_layout s).entry (drop (place_of (list_layout s) s i) s)
+      fields_are =
+          let bytes : (10 + (10 + (8 * r.bytes - 20 + 0))) / 8 ≡ r.bytes = omega (arith, shaped.least) in
+          rw (shaped.start, shaped.fields, bytes)
 
-    fields_are : read_record (entry_fields shape.bytes) (drop (shape.start + shape.bytes * i) s)
-        ≡ read_record (list_layout s).entry (drop at s)
-    fields_are =
-        let whole : (10 + (10 + (8 * shape.bytes - 20 + 0))) / 8 ≡ shape.bytes = omega (arith, t.shaped.least) in
-        rw (t.shaped.start, t.shaped.fields, whole)
-
-    here : (e.a ∷ e.b ∷ e.points ∷ []) ≡ get_or (read_entries (list_layout s) s) i []
-    here = read ∙ fields_are ∙ sym (record_at_is (list_layout s) s i t.there.below)
+      here : (e.a ∷ e.b ∷ e.points ∷ []) ≡ get_or (read_entries (list_layout s) s) i []
+      here = read ∙ fields_are ∙ sym (record_at_is (list_layout s) s i (omega (arith, whole.count, below)))
 
 -- ---- the entries in view
 

@@ -1,15 +1,16 @@
--- Laws of files written into an output. In order: a number written from its last byte on; one part written after
+-- Laws of files written into an output. In order: the last bytes of a number; one part written after
 -- another, `onto_next`; the words of a file; the files that words make, their length (`words_length`), and what they
 -- stand for (`records_file`).
-use Prim.Native.Nat.{ℕ, zero, suc, ◌+◌, ◌*◌, ◌-◌, ◌/◌, ◌%◌, ◌<◌, ◌≤◌}
+use Prim.Native.Nat.{ℕ, zero, suc, ◌+◌, ◌*◌, ◌-◌, ◌/◌, ◌%◌, ◌^◌, ◌<◌, ◌≤◌}
 use mathlib.Core.Path.{◌≡◌, refl, sym, ap, ap₂, ◌∙◌}
 use mathlib.Core.List.{List, [], ◌∷◌, ◌++◌, map, append-nil, append_assoc}
 use native.Mathlib.Omega.{arith}
-use native.Mathlib.Nat.{mul-suc, mul-le-mul_left}
+use native.Mathlib.Nat.{mul-suc, mul-le-mul_left, div-div-eq-div-mul, mul_comm, pow-suc}
 use native.Mathlib.Numerals.{add-one}
-use lib.ListN.{length, take, drop, get_or, set, length-append, length-drop, length-set, length-map, get_or-map}
-use lib.Seq.{drop-cons, drop-set-lt, get_or-set_same, drop-length, drop_at, drop-drop, take-suc, take_at, take_all}
+use lib.ListN.{length, take, drop, get_or, length-append, length-drop, length-map, get_or-map}
+use lib.Seq.{drop-length, drop_at, drop-drop, take-suc, take_at, take_all}
 use lib.Seq.{length-take-le}
+use Rattle.std.specs.Int.{byte_at, bytes_high_first, to_be_bytes, w64}
 use borrow.Rule.Slice.PartMut.{put_mid, post_of, Post-is}
 use Rattle.cellfile.specs.Bytes.{bytes}
 use Rattle.cellfile.specs.Fields.{size, packed, fields, write_records}
@@ -25,37 +26,48 @@ use Rattle.cellfile.proofs.Bytes.{length_bytes}
 use Rattle.cellfile.proofs.Fields.{write_fields, fields_packed}
 use Rattle.cellfile.proofs.RoundTrip.{length_file}
 
--- ---- a number, from its last byte on
+-- ---- the last bytes of a number
 
-abbrev pub put_down : ℕ → ℕ → List ℕ → List ℕ
-put_down zero v out = out
-put_down (suc k) v out = put_down k (v / 256) (set out k (v % 256))
+byte_on : (k v : ℕ) → byte_at k (v / 256) ≡ byte_at (suc k) v
+byte_on zero v = refl
+byte_on (suc k) v = rw (div-div-eq-div-mul v 256 (256 ^ suc k), mul_comm 256 (256 ^ suc k), ← pow-suc 256 (suc k))
 
-set_drop : (out : List ℕ) (k x : ℕ) → k < length out → drop k (set out k x) ≡ x ∷ drop (suc k) out
-set_drop out k x h =
-    drop-cons (set out k x) k 0 (rw length-set h)
-    ∙ rw (get_or-set_same out k x 0 h, drop-set-lt (suc k) out k x (omega arith))
+high_first : (k v : ℕ) → bytes (suc k) v ≡ byte_at k v ∷ bytes k v
+unfolding bytes
+high_first zero v = refl
+high_first (suc k) v = rw (high_first k (v / 256), byte_on k v)
 
-pub put_down_is : (k v : ℕ) (out : List ℕ) → k ≤ length out → put_down k v out ≡ onto (bytes k v) out
-unfolding bytes onto
-put_down_is zero v out h = refl
-put_down_is (suc k) v out h =
-    put_down_is k (v / 256) (set out k (v % 256)) (rw length-set (omega arith))
-    ∙ rw (
-      length_bytes k (v / 256),
-      set_drop out k (v % 256) h,
-      length-append,
-      length_bytes k
-          (v / 256),
-      add-one k,
-      append_assoc,
+all_bytes : (k v : ℕ) → bytes_high_first k v ≡ bytes k v
+unfolding bytes
+all_bytes zero v = refl
+all_bytes (suc k) v = rw (all_bytes k v) (sym (high_first k v))
+
+pub last_bytes : (k v : ℕ) → k ≤ 8 → drop (8 - k) (to_be_bytes w64 v) ≡ bytes k v
+last_bytes k v h = low k h ∙ all_bytes k v
+  where
+    low : (k : ℕ) → k ≤ 8 → drop (8 - k) (bytes_high_first 8 v) ≡ bytes_high_first k v
+    low zero h = refl
+    low (suc zero) h = refl
+    low (suc (suc zero)) h = refl
+    low (suc (suc (suc zero))) h = refl
+    low (suc (suc (suc (suc zero)))) h = refl
+    low (suc (suc (suc (suc (suc zero))))) h = refl
+    low (suc (suc (suc (suc (suc (suc zero)))))) h = refl
+    low (suc (suc (suc (suc (suc (suc (suc zero))))))) h = refl
+    low (suc (suc (suc (suc (suc (suc (suc (suc zero)))))))) h = refl
+    low (suc (suc (suc (suc (suc (suc (suc (suc (suc k))))))))) h = absurd (omega arith)
+
+-- written at the start of an output
+pub last_written : (k v : ℕ) (out : List ℕ) {all : List ℕ} → k ≤ 8 → all ≡ to_be_bytes w64 v
+    → take (8 - (8 - k)) (drop (8 - k) all) ++ drop k out ≡ onto (bytes k v) out
+unfolding onto
+last_written k v out h e =
+    rw (
+      e,
+      take_all (8 - (8 - k)) (drop (8 - k) (to_be_bytes w64 v)) (omega (arith, length-drop (8 - k) (to_be_bytes w64 v))),
+      last_bytes k v h,
+      length_bytes k v,
     )
-
-pub down_next : (k v : ℕ) (out : List ℕ) → 0 < k → put_down k v out ≡ put_down (k - 1) (v / 256)
-    (set out (k - 1) (v % 256))
-down_next k v out h =
-    let e : k ≡ suc (k - 1) = omega arith in
-    ap (λ i. put_down i v out) e
 
 -- ---- a part after what was written
 
@@ -154,31 +166,23 @@ header_number kind n m = omega arith
 -- ---- the files that the writers write: a header, what stands behind it, and the entries
 
 -- nothing between the header and the entries
-pub plain_file : {l : Layout} {kind k : ℕ} → Plain l kind k → (n m : ℕ) (words : List ℕ) → m ≤ length words
-    → bytes 4 (packed header (kind ∷ n ∷ m ∷ 0 ∷ [])) ++ word_bytes k (take m words)
-    ≡ write_file l (file_of l n [] (take m words))
+pub plain_file : {l : Layout} → Plain l → (n : ℕ) (words : List ℕ)
+    → bytes 4 (packed header (l.kind ∷ n ∷ length words ∷ 0 ∷ [])) ++ word_bytes (size l.entry) words
+    ≡ write_file l (file_of l n [] words)
 unfolding bytes
-plain_file {l} p n m words h =
-    rw (
-      ← p.kind_is,
-      ← p.bytes_are,
-      words_records l.entry (take m words) p.whole,
-      length-map,
-      length-take-le m words h,
-      p.bare n,
-    )
+plain_file {l} p n words = rw (words_records l.entry words p.whole, length-map, p.bare n)
 
-pub plain_length : {l : Layout} {kind k : ℕ} → Plain l kind k → (n m : ℕ) → file_length l n m ≡ 4 + k * m
-plain_length p n m = rw (p.bytes_are, p.bare n)
+pub plain_length : {l : Layout} → Plain l → (n m : ℕ) → file_length l n m ≡ 4 + size l.entry * m
+plain_length p n m = rw (p.bare n)
 
 -- the length of a file of words
-pub words_length : {l : Layout} {kind k : ℕ} → Plain l kind k → (n r : ℕ) (ws : List ℕ) → r ≤ length ws
-    → 4 + k * r ≡ length (words_file l n r ws)
+pub words_length : {l : Layout} → Plain l → (n r : ℕ) (ws : List ℕ) → r ≤ length ws
+    → file_length l n r ≡ length (words_file l n r ws)
 words_length {l} p n r ws h =
     let all = take r ws in
     let count : length (map (fields l.entry) all) ≡ r =
     length-map all (fields l.entry) ∙ length-take-le r ws h in
-    sym (length_file l (file_of l n [] all) ∙ ap (file_length l n) count ∙ plain_length p n r)
+    sym (length_file l (file_of l n [] all) ∙ ap (file_length l n) count)
 
 -- the file of what the words stand for
 pub records_file : {A : Type 0} (l : Layout) (n r : ℕ) (ws : List ℕ) (g : A → List ℕ) (xs : List A)
@@ -194,23 +198,24 @@ records_file {A} l n r ws g xs e h =
     again (x ∷ xs) h = ap₂ (λ v vs. v ∷ vs) (fields_packed l.entry (g x) h.0) (again xs h.1)
 
 -- behind the header there is room for the entries
-pub plain_room : {l : Layout} {kind k : ℕ} → Plain l kind k → {n m : ℕ} {words out : List ℕ} (out' : List ℕ)
-    → Writable l n m words out → length out' ≡ length out → k * m ≤ length (take (length out' - 4) (drop 4 out'))
-plain_room {k = k} p {n} {m} out' w same =
-    part_room out' 4 (k * m) (omega (arith, plain_length p n m, w.room, same))
+pub plain_room : {l : Layout} → Plain l → {n : ℕ} {words out : List ℕ} (out' : List ℕ)
+    → Writable l n words out → length out' ≡ length out
+    → size l.entry * length words ≤ length (take (length out' - 4) (drop 4 out'))
+plain_room {l} p {n} {words} out' w same =
+    part_room out' 4 (size l.entry * length words) (omega (arith, plain_length p n (length words), w.room, same))
 
 -- the layouts of store lists, slips, pairings and origin lists
-pub plain_store : Plain store_list 1 5
-plain_store = record { kind_is = refl; bytes_are = refl; whole = refl; bare = λ n. refl }
+pub plain_store : Plain store_list
+plain_store = record { whole = refl; bare = λ n. refl }
 
-pub plain_slip : Plain slip 3 2
-plain_slip = record { kind_is = refl; bytes_are = refl; whole = refl; bare = λ n. refl }
+pub plain_slip : Plain slip
+plain_slip = record { whole = refl; bare = λ n. refl }
 
-pub plain_pairing : Plain pairing 4 3
-plain_pairing = record { kind_is = refl; bytes_are = refl; whole = refl; bare = λ n. refl }
+pub plain_pairing : Plain pairing
+plain_pairing = record { whole = refl; bare = λ n. refl }
 
-pub plain_origins : Plain origin_list 5 5
-plain_origins = record { kind_is = refl; bytes_are = refl; whole = refl; bare = λ n. refl }
+pub plain_origins : Plain origin_list
+plain_origins = record { whole = refl; bare = λ n. refl }
 
 pub length_head : (v w : ℕ) → length (bytes 4 v ++ bytes 8 w) ≡ 12
 length_head v w = rw (length-append, length_bytes 4 v, length_bytes 8 w)

@@ -15,7 +15,7 @@ use Rattle.matching.specs.Pairing.{cells}
 use Rattle.cellfile.specs.Fields.{size, read_record, read_records, fields}
 use Rattle.cellfile.specs.Files.{Layout, start, cells_of, count_of, read_entries, as_entry, as_pair, pairing}
 use Rattle.cellfile.specs.Files.{list_layout, entries_all, steps_of, pairs_of, slip}
-use Rattle.cellfile.specs.Reads.{StepAt, PairAt, RecordThere, EntryRead, StepRead, PairRead}
+use Rattle.cellfile.specs.Reads.{WholeFile, place_of, RecordAt, RecordRead, EntryRead, StepRead, PairRead}
 use Rattle.cellfile.specs.Words.{no_entry}
 use Rattle.cellfile.specs.declared.decode.Entry.{Entry}
 use Rattle.cellfile.specs.declared.decode.SlipStep.{SlipStep}
@@ -42,22 +42,33 @@ record_in_is ws s (suc m) (suc i) l =
     record_in_is ws (drop (size ws) s) m i (omega arith) ∙ rw (drop-drop (size ws * i) (size ws) s, e)
 
 pub record_at_is : (l : Layout) (s : List ℕ) (i : ℕ) → i < count_of s
-    → get_or (read_entries l s) i [] ≡ read_record l.entry (drop (start l (cells_of s) + size l.entry * i) s)
+    → get_or (read_entries l s) i [] ≡ read_record l.entry (drop (place_of l s i) s)
 record_at_is l s i h =
     record_in_is l.entry (drop (start l (cells_of s)) s) (count_of s) i h
     ∙ rw (drop-drop (size l.entry * i) (start l (cells_of s)) s)
 
 -- the record is in the file, and the number of its place in bounds
-pub place_fits : (l : Layout) (s : List ℕ) (i : ℕ) → RecordThere l s i
-    → (start l (cells_of s) + size l.entry * i + size l.entry ≤ length s)
+pub place_fits : (l : Layout) (s : List ℕ) {m : ℕ} (i : ℕ) → WholeFile l s m → i < m
+    → (place_of l s i + size l.entry ≤ length s)
     × (size l.entry * i ≤ size l.entry * 8191)
 unfolding fields
-place_fits l s i r =
-    let h = r.below in
+place_fits l s i r k =
+    let h : i < count_of s = omega (arith, r.count) in
     let e : size l.entry * suc i ≡ size l.entry + size l.entry * i = rw mul-suc (omega arith) in (
       omega (arith, r.long, e, mul-le-mul_left {m = suc i} {n = count_of s} (size l.entry) (omega arith)),
       mul-le-mul_left {m = i} {n = 8191} (size l.entry) (omega arith),
     )
+
+-- the record read where it starts
+pub record_found : {A : Type 0} {l : Layout} {says : A → List ℕ} {Fits : A → Type 0} (s : List ℕ) {m : ℕ} (i at : ℕ)
+    {r : A} → WholeFile l s m → i < m → at ≡ place_of l s i → RecordAt l says Fits (rest_from at s) r
+    → RecordRead l says Fits s i r
+record_found {l = l} s i at w k e h = record {
+  is =
+      h.is ∙ ap (read_record l.entry) (from_place at s ∙ ap (λ p. drop p s) e)
+      ∙ sym (record_at_is l s i (omega (arith, w.count, k)));
+  fits = h.fits;
+}
 
 records_count : (l : Layout) (s : List ℕ) → length (read_entries l s) ≡ count_of s
 records_count l s = length_read_records l.entry (count_of s) (drop (start l (cells_of s)) s)
@@ -81,7 +92,9 @@ steps_count s = length-map (read_entries slip s) as_pair ∙ records_count slip 
 
 pub step_next : (s : List ℕ) (i : ℕ) (t : SlipStep) → i < count_of s → StepRead s i t
     → drop i (steps_of s) ≡ (t.rule, t.cell) ∷ drop (i + 1) (steps_of s)
-step_next s i t l r = next (steps_of s) i (0, 0) _ (omega (arith, steps_count s)) r.is
+step_next s i t l r =
+    next (steps_of s) i (0, 0) _ (omega (arith, steps_count s))
+    (ap as_pair r.is ∙ sym (get_or-map as_pair (read_entries slip s) i []))
 
 pub fields_count : (s : List ℕ) → length (read_entries pairing s) ≡ count_of s
 fields_count s = records_count pairing s
@@ -98,24 +111,6 @@ pub pair_next : (s : List ℕ) (i : ℕ) (p : PairEntry) → i < count_of s → 
 pair_next s i p l r =
     next (pairs_of s) i (0, 0) _ (omega (arith, pairs_count s))
     (ap as_pair r.is ∙ sym (get_or-map as_pair (read_entries pairing s) i []))
-
--- the step and the pair at a place, by the records read there
-pub step_is : (s : List ℕ) (i : ℕ) (t : SlipStep) → i < count_of s → StepAt (rest_from (4 + 2 * i) s) t → StepRead s i t
-step_is s i t l r = record {
-  is =
-      let read = ap (read_record slip.entry) (from_place (4 + 2 * i) s) in
-      ap as_pair (r.is ∙ read ∙ sym (record_at_is slip s i l)) ∙ sym (get_or-map as_pair (read_entries slip s) i []);
-  rule_fits = r.rule_fits;
-  cell_fits = r.cell_fits;
-}
-
-pub pair_is : (s : List ℕ) (i : ℕ) (p : PairEntry) → i < count_of s → PairAt (rest_from (4 + 3 * i) s) p
-    → PairRead s i p
-pair_is s i p l r = record {
-  is = r.is ∙ rw (from_place (4 + 3 * i) s, record_at_is pairing s i l);
-  a_fits = r.a_fits;
-  b_fits = r.b_fits;
-}
 
 -- ---- the cells of pairs
 

@@ -3,6 +3,8 @@ pub mod Bytes
 pub mod Fields
 pub mod Files
 pub mod Fits
+pub mod Kinds
 pub mod Answers
 pub mod Reads
+pub mod Shapes
 pub mod Words

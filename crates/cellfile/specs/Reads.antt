@@ -1,12 +1,11 @@
 -- What the decoders promise: the fields of the record at the start of the bytes, each with its bound; and the record at
 -- a place of a file. Inner contracts cite these; the loops over a file go by the laws of proofs/Walk.
-use Rattle.std.specs.Prelude.{ℕ, ◌*◌, ◌-◌, ◌<◌, ◌≤◌, ◌≡◌, List, [], ◌∷◌, length, get_or}
+use Rattle.std.specs.Prelude.{ℕ, ◌+◌, ◌*◌, ◌-◌, ◌<◌, ◌≤◌, ◌≡◌, List, [], ◌∷◌, length, get_or}
 use Rattle.cellfile.specs.Fields.{size, read_record}
 use Rattle.cellfile.specs.Files.{Layout, slip, pairing, start, file_length, kind_of, cells_of, count_of, zeros_of}
-use Rattle.cellfile.specs.Files.{read_entries, steps_of, list_layout, entries_all}
+use Rattle.cellfile.specs.Files.{read_entries, entries_all}
 use Rattle.cellfile.specs.Words.{no_entry}
 use Rattle.cellfile.specs.declared.decode.Header.{Header}
-use Rattle.cellfile.specs.declared.decode.Shape.{Shape}
 use Rattle.cellfile.specs.declared.decode.Entry.{Entry}
 use Rattle.cellfile.specs.declared.decode.SlipStep.{SlipStep}
 use Rattle.cellfile.specs.declared.decode.PairEntry.{PairEntry}
@@ -29,35 +28,35 @@ pub record EntryAt (bytes : ℕ) (s : List ℕ) (e : Entry) : Type 0 where
   pub a_fits : e.a < 1024
   pub b_fits : e.b < 1024
 
-pub record StepAt (s : List ℕ) (t : SlipStep) : Type 0 where
-  pub is : (t.rule ∷ t.cell ∷ []) ≡ read_record slip.entry s
-  pub rule_fits : t.rule < 64
-  pub cell_fits : t.cell < 1024
+-- A record by its fields: those read from the bytes, each within its bound.
+abbrev pub step_fields : SlipStep → List ℕ
+step_fields t = t.rule ∷ t.cell ∷ []
 
-pub record PairAt (s : List ℕ) (p : PairEntry) : Type 0 where
-  pub is : (p.a ∷ p.b ∷ p.zeros ∷ []) ≡ read_record pairing.entry s
-  pub a_fits : p.a < 1024
-  pub b_fits : p.b < 1024
+pub record StepFits (t : SlipStep) : Type 0 where
+  pub rule : t.rule < 64
+  pub cell : t.cell < 1024
+
+abbrev pub pair_entry_fields : PairEntry → List ℕ
+pair_entry_fields p = p.a ∷ p.b ∷ p.zeros ∷ []
+
+pub record PairFits (p : PairEntry) : Type 0 where
+  pub a : p.a < 1024
+  pub b : p.b < 1024
+
+pub record RecordAt {A : Type 0} (l : Layout) (says : A → List ℕ) (Fits : A → Type 0) (s : List ℕ) (r : A) : Type 0 where
+  pub is : says r ≡ read_record l.entry s
+  pub fits : Fits r
 
 -- ---- the record at a place of a file
 
--- The file has a record at place i, and all the bytes that its header says.
-pub record RecordThere (l : Layout) (s : List ℕ) (i : ℕ) : Type 0 where
-  pub below : i < count_of s
+-- A file of m records with all the bytes that its header says.
+pub record WholeFile (l : Layout) (s : List ℕ) (m : ℕ) : Type 0 where
+  pub count : m ≡ count_of s
   pub long : file_length l (cells_of s) (count_of s) ≤ length s
 
--- Where the entries of a list start, and their bytes.
-pub record ShapeRead (s : List ℕ) (r : Shape) : Type 0 where
-  pub start : r.start ≡ start (list_layout s) (cells_of s)
-  pub bytes : r.bytes ≡ size (list_layout s).entry
-  pub fields : (list_layout s).entry ≡ entry_fields r.bytes
-  pub start_fits : r.start ≤ 4
-  pub least : 3 ≤ r.bytes
-  pub most : r.bytes ≤ 8
-
-pub record EntryThere (s : List ℕ) (shape : Shape) (i : ℕ) : Type 0 where
-  pub shaped : ShapeRead s shape
-  pub there : RecordThere (list_layout s) s i
+-- The place in bytes of record i.
+abbrev pub place_of : Layout → List ℕ → ℕ → ℕ
+place_of l s i = start l (cells_of s) + size l.entry * i
 
 -- More than the points of any entry can be.
 abbrev pub points_top : ℕ
@@ -69,12 +68,14 @@ pub record EntryRead (s : List ℕ) (i : ℕ) (e : Entry) : Type 0 where
   pub b_fits : e.b < 1024
   pub points_fit : e.points < points_top
 
-pub record StepRead (s : List ℕ) (i : ℕ) (t : SlipStep) : Type 0 where
-  pub is : (t.rule, t.cell) ≡ get_or (steps_of s) i (0, 0)
-  pub rule_fits : t.rule < 64
-  pub cell_fits : t.cell < 1024
+-- The record at place i of a file, as the decoders say it; of a slip a step, of a pairing a pair.
+pub record RecordRead {A : Type 0} (l : Layout) (says : A → List ℕ) (Fits : A → Type 0) (s : List ℕ) (i : ℕ) (r : A)
+    : Type 0 where
+  pub is : says r ≡ get_or (read_entries l s) i []
+  pub fits : Fits r
 
-pub record PairRead (s : List ℕ) (i : ℕ) (p : PairEntry) : Type 0 where
-  pub is : (p.a ∷ p.b ∷ p.zeros ∷ []) ≡ get_or (read_entries pairing s) i []
-  pub a_fits : p.a < 1024
-  pub b_fits : p.b < 1024
+abbrev pub StepRead : List ℕ → ℕ → SlipStep → Type 0
+StepRead = RecordRead slip step_fields StepFits
+
+abbrev pub PairRead : List ℕ → ℕ → PairEntry → Type 0
+PairRead = RecordRead pairing pair_entry_fields PairFits

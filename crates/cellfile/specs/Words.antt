@@ -4,7 +4,7 @@ use Rattle.buffers.specs.Map.{unit, at_cells}
 use Rattle.matching.specs.Pairs.{Pair}
 use Rattle.matching.specs.Listed.{Entry}
 use Rattle.cellfile.specs.Bytes.{bytes}
-use Rattle.cellfile.specs.Fields.{size, fields, packed}
+use Rattle.cellfile.specs.Fields.{fields, packed}
 use Rattle.cellfile.specs.Fits.{WholeBytes}
 use Rattle.cellfile.specs.Files.{Layout, File, file_length, write_file, store_list, pairing, as_fields}
 use Rattle.cellfile.specs.Files.{name_fields, pair_fields, origin_fields, short_list, slip, origin_list}
@@ -24,19 +24,16 @@ file_of l n extra words = record { cells = n; extra = extra; entries = map (fiel
 abbrev pub words_file : Layout → ℕ → ℕ → List ℕ → List ℕ
 words_file l n r ws = write_file l (file_of l n [] (take r ws))
 
--- A layout of that kind with records of so many whole bytes and nothing between the header and the records.
-pub record Plain (l : Layout) (kind bytes : ℕ) : Type 0 where
-  pub kind_is : l.kind ≡ kind
-  pub bytes_are : size l.entry ≡ bytes
+-- A layout with records of whole bytes and nothing between the header and the records.
+pub record Plain (l : Layout) : Type 0 where
   pub whole : WholeBytes l.entry
   pub bare : (n : ℕ) → l.extra n ≡ []
 
--- What a writer asks: n and m fit the header, there are m words, and the output has room.
-pub record Writable (l : Layout) (n m : ℕ) (ws out : List ℕ) : Type 0 where
+-- What a writer asks: n and the count of the words fit the header, and the output has room.
+pub record Writable (l : Layout) (n : ℕ) (ws out : List ℕ) : Type 0 where
   pub cells : n < 2048
-  pub count : m < 8192
-  pub words : m ≤ length ws
-  pub room : file_length l n m ≤ length out
+  pub count : length ws < 8192
+  pub room : file_length l n (length ws) ≤ length out
 
 -- An entry of a store list and of a short list, a pair of a pairing and of an origin list, and a step of a slip as
 -- words.

@@ -1,13 +1,11 @@
-// Inner: reads a file. The fields of a record at the start of a part of it, where missing bytes read as 0; and the
-// record at a place, which is handed on as the part that starts at it.
+// Inner: reads a file. The fields of a record at the start of a part of it, where missing bytes read as 0.
 ghost use Rattle.std.specs.Prelude.{◌≡◌, ◌<◌, ◌≤◌, length, get_or};
 ghost use Rattle.cellfile.specs.Bytes.{number};
-ghost use Rattle.cellfile.specs.Files.{slip as slip_layout, pairing as pairing_layout, list_layout};
-ghost use Rattle.cellfile.specs.Files.{cells_of, file_length};
-ghost use Rattle.cellfile.specs.Reads.{HeaderRead, EntryAt, StepAt, PairAt, RecordThere, ShapeRead, EntryThere};
-ghost use Rattle.cellfile.specs.Reads.{EntryRead, StepRead, PairRead};
+ghost use Rattle.cellfile.specs.Files.{slip, pairing};
+ghost use Rattle.cellfile.specs.Reads.{HeaderRead, EntryAt, RecordAt, step_fields, StepFits};
+ghost use Rattle.cellfile.specs.Reads.{pair_entry_fields, PairFits};
 
-use crate::format::{ENTRY_BYTES, HEADER_BYTES, PAIR_BYTES, STEP_BYTES};
+use crate::format::{HEADER_BYTES, Kind};
 
 // The fields of a header.
 #[derive(Clone, Copy)]
@@ -16,13 +14,6 @@ pub struct Header {
     pub n: usize,
     pub m: usize,
     pub zeros: u64,
-}
-
-// Where the entries of a list start, and the bytes of each.
-#[derive(Clone, Copy)]
-pub struct Shape {
-    pub start: usize,
-    pub bytes: usize,
 }
 
 // An entry of a list.
@@ -65,19 +56,10 @@ const BITS_17: u64 = 131072;
 
 const BITS_28: u64 = 268435456;
 
-fn wide(x: u8) -> u64
-    ensures { (result ≡ x) × (result < 256) }
-{
-    x as u64
-}
-
 pub fn byte_at(s: &[u8], i: usize) -> u64
     ensures { (result ≡ get_or s.now i 0) × (result < 256) }
 {
-    if i < s.len() {
-        return wide(s[i]);
-    }
-    0
+    s.get(i).copied().map_or(0, u64::from)
 }
 
 // The number that the first `size` bytes write.
@@ -86,10 +68,8 @@ pub fn number_at(s: &[u8], size: usize) -> u64
     ensures { result ≡ number size s.now }
 {
     let mut v: u64 = 0;
-    let mut i = 0;
-    while i < size {
+    for i in 0..size {
         v = v * 256 + byte_at(s, i);
-        i += 1;
     }
     v
 }
@@ -112,7 +92,7 @@ pub fn entry_at(s: &[u8], bytes: usize) -> Entry
     requires { (3 ≤ bytes) × (bytes ≤ 8) × (bytes ≤ length s.now) }
     ensures { EntryAt bytes s.now result }
 {
-    let v = number_at(&s[0..bytes], bytes);
+    let v = number_at(&s[..bytes], bytes);
     let points = 8 * bytes - 20;
     let key = v >> points;
     Entry {
@@ -123,9 +103,9 @@ pub fn entry_at(s: &[u8], bytes: usize) -> Entry
 }
 
 pub fn step_at(s: &[u8]) -> SlipStep
-    ensures { StepAt s.now result }
+    ensures { RecordAt slip step_fields StepFits s.now result }
 {
-    let v = number_at(s, STEP_BYTES);
+    let v = number_at(s, Kind::Slip.record_bytes());
     SlipStep {
         rule: v / BITS_10 % BITS_6,
         cell: (v % BITS_10) as usize,
@@ -133,62 +113,12 @@ pub fn step_at(s: &[u8]) -> SlipStep
 }
 
 pub fn pair_at(s: &[u8]) -> PairEntry
-    ensures { PairAt s.now result }
+    ensures { RecordAt pairing pair_entry_fields PairFits s.now result }
 {
-    let v = number_at(s, PAIR_BYTES);
+    let v = number_at(s, Kind::Pairing.record_bytes());
     PairEntry {
         a: (v / BITS_14 % BITS_10) as usize,
         b: (v / BITS_4 % BITS_10) as usize,
         zeros: v % BITS_4,
     }
-}
-
-// The shape of a list, by its bytes.
-pub fn shape_of(list: &[u8]) -> Shape
-    ensures { ShapeRead list.now result }
-{
-    Shape {
-        start: HEADER_BYTES,
-        bytes: ENTRY_BYTES,
-    }
-}
-
-// The bytes of a list with m entries.
-pub fn list_length(list: &[u8], m: usize) -> usize
-    requires { m < 8192 }
-    ensures { result ≡ file_length (list_layout list.now) (cells_of list.now) m }
-{
-    let shape = shape_of(list);
-    let start = shape.start;
-    let bytes = shape.bytes;
-    start + bytes * m
-}
-
-// The entry at place i of a list of that shape.
-pub fn list_entry(list: &[u8], shape: Shape, i: usize) -> Entry
-    requires { EntryThere list.now shape i }
-    ensures { EntryRead list.now i result }
-{
-    let start = shape.start;
-    let bytes = shape.bytes;
-    let at = start + bytes * i;
-    entry_at(&list[at..], bytes)
-}
-
-// The step at place i of a slip.
-pub fn slip_step(slip: &[u8], i: usize) -> SlipStep
-    requires { RecordThere slip_layout slip.now i }
-    ensures { StepRead slip.now i result }
-{
-    let at = HEADER_BYTES + STEP_BYTES * i;
-    step_at(&slip[at..])
-}
-
-// The pair at place i of a pairing.
-pub fn pairing_pair(pairing: &[u8], i: usize) -> PairEntry
-    requires { RecordThere pairing_layout pairing.now i }
-    ensures { PairRead pairing.now i result }
-{
-    let at = HEADER_BYTES + PAIR_BYTES * i;
-    pair_at(&pairing[at..])
 }

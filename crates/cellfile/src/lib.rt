@@ -4,4 +4,5 @@
 
 pub mod decode;
 pub mod format;
+pub mod records;
 pub mod write;

@@ -1,15 +1,15 @@
 // Inner: writes a file into an output. Its first bytes are the file, the others are unchanged. The caller has found
-// that the output has room. Entries come as words, each the number of a record, of which the low bits count; those of a
-// short list as rows and cells in the first work buffer.
-ghost use Rattle.std.specs.Prelude.{◌≡◌, ◌∷◌, [], map, ◌+◌, ◌*◌, ◌/◌, ◌%◌, ◌≤◌, ◌<◌, length, take};
+// that the output has room. Records come as numbers, of which the low bytes count: those of a plain file as words, those
+// of a short list as rows and cells in the first work buffer.
+ghost use Rattle.std.specs.Prelude.{◌≡◌, ◌∷◌, [], map, ◌+◌, ◌*◌, ◌/◌, ◌%◌, ◌≤◌, ◌<◌, length, get_or, ℕ, List};
 ghost use Rattle.buffers.specs.Map.{unit};
 ghost use Rattle.cellfile.specs.Bytes.{bytes};
 ghost use Rattle.cellfile.specs.Fields.{packed};
-ghost use Rattle.cellfile.specs.Files.{header, Layout, short_list, write_file, file_length, onto, as_fields};
-ghost use Rattle.cellfile.specs.Words.{word_bytes, file_of, word_of_short, Plain, Writable, OfRows};
-ghost use Rattle.cellfile.specs.Words.{RowsFit, points_room};
+ghost use Rattle.cellfile.specs.Files.{header, short_list, write_file, file_length, onto, as_fields};
+ghost use Rattle.cellfile.specs.Kinds.{layout_of};
+ghost use Rattle.cellfile.specs.Words.{word_bytes, file_of, Plain, Writable, OfRows, RowsFit, points_room};
 
-use crate::format;
+use crate::format::{CARRIED_BYTES, HEADER_BYTES, Kind, SHORT_START};
 use buffers::map;
 
 const KIND_UNIT: u64 = 268435456;
@@ -25,30 +25,48 @@ const CELL_A: u64 = map::CELL_FIELD * POINTS_ROOM;
 
 // The last `size` bytes of the number, most significant first.
 fn put_number(v: u64, size: usize, out: &mut [u8])
-    requires { size ≤ length out.old }
+    requires { (size ≤ 8) × (size ≤ length out.old) }
     ensures { out.new ≡ onto (bytes size v) out.old }
 {
-    let mut left = size;
-    let mut rest = v;
-    while 0 < left {
-        left -= 1;
-        out[left] = (rest % 256) as u8;
-        rest /= 256;
+    out[..size].copy_from_slice(&v.to_be_bytes()[8 - size..]);
+}
+
+// The last `size` bytes of each of `count` numbers.
+fn put_numbers<F: Fn(usize) -> u64>(count: usize, size: usize, number: F, out: &mut [u8])
+    requires room { (size * count ≤ length out.old) × (size ≤ 8) × (count < 8192) }
+    requires numbers { (i : ℕ) → i < count → F.pre number i }
+    ensures { (ws : List ℕ) → count ≡ length ws
+        → ((i v : ℕ) → i < count → F.post number i v → v ≡ get_or ws i 0)
+        → out.new ≡ onto (word_bytes size ws) out.old }
+{
+    for i in 0..count {
+        put_number(number(i), size, &mut out[size * i..]);
     }
 }
 
-// The last `size` bytes of each of the first `count` words.
-fn put_words(words: &[u64], count: usize, size: usize, out: &mut [u8])
-    requires { (count ≤ length words.now) × (size * count ≤ length out.old) × (size ≤ 8) × (count < 8192) }
-    ensures { out.new ≡ onto (word_bytes size (take count words.now)) out.old }
+fn put_header(kind: Kind, n: usize, m: usize, out: &mut [u8])
+    requires { (n < 2048) × (m < 8192) × (4 ≤ length out.old) }
+    ensures { out.new ≡ onto (bytes 4 (packed header ((layout_of kind).kind ∷ n ∷ m ∷ 0 ∷ []))) out.old }
 {
-    let mut i = 0;
-    let mut at = 0;
-    while i < count {
-        put_number(words[i], size, &mut out[at..]);
-        at += size;
-        i += 1;
-    }
+    put_number(
+        u64::from(kind) * KIND_UNIT + n as u64 * CELLS_UNIT + m as u64 * COUNT_UNIT,
+        HEADER_BYTES,
+        out,
+    );
+}
+
+// A file of that kind of n cells, whose records are the last bytes of the words.
+pub fn write_words(kind: Kind, n: usize, words: &[u64], out: &mut [u8])
+    requires { Plain (layout_of kind) × Writable (layout_of kind) n words.now out.old }
+    ensures { out.new ≡ onto (write_file (layout_of kind) (file_of (layout_of kind) n [] words.now)) out.old }
+{
+    put_header(kind, n, words.len(), out);
+    put_numbers(
+        words.len(),
+        kind.record_bytes(),
+        |i| words[i],
+        &mut out[HEADER_BYTES..],
+    );
 }
 
 // The number of the record of a short list whose entry is the row x and the cell a. The test always holds: without it
@@ -63,46 +81,6 @@ fn short_word(x: u64, a: u64) -> u64
     0
 }
 
-// The entries of the first `count` rows, as the records of a short list.
-fn put_rows(w1: &[u64], count: usize, out: &mut [u8])
-    requires { RowsFit count w1.now × (8 * count ≤ length out.old) }
-    ensures { OfRows count w1.now (λ es.
-        out.new ≡ onto (word_bytes 8 (map word_of_short es)) out.old) }
-{
-    let mut i = 0;
-    let mut at = 0;
-    while i < count {
-        put_number(
-            short_word(w1[i], w1[map::CELL_WORDS + i]),
-            format::SHORT_BYTES,
-            &mut out[at..],
-        );
-        at += format::SHORT_BYTES;
-        i += 1;
-    }
-}
-
-fn put_header(kind: u64, n: usize, m: usize, out: &mut [u8])
-    requires { (kind < 16) × (n < 2048) × (m < 8192) × (4 ≤ length out.old) }
-    ensures { out.new ≡ onto (bytes 4 (packed header (kind ∷ n ∷ m ∷ 0 ∷ []))) out.old }
-{
-    put_number(
-        kind * KIND_UNIT + n as u64 * CELLS_UNIT + m as u64 * COUNT_UNIT,
-        format::HEADER_BYTES,
-        out,
-    );
-}
-
-// A file of that kind of n cells, whose entries are the last `bytes` bytes of each of the first m words.
-pub fn write_words(kind: u64, bytes: usize, n: usize, words: &[u64], m: usize, out: &mut [u8])
-    requires { ((l : Layout) × Plain l kind bytes × Writable l n m words.now out.old) × (kind < 16) × (bytes ≤ 8) }
-    ensures { (l : Layout) → Plain l kind bytes → out.new
-        ≡ onto (write_file l (file_of l n [] (take m words.now))) out.old }
-{
-    put_header(kind, n, m, out);
-    put_words(words, m, bytes, &mut out[format::HEADER_BYTES..]);
-}
-
 // A short list of n cells with its carried points, whose entries are the first m rows.
 pub fn write_short(n: usize, carried: u64, w1: &[u64], m: usize, out: &mut [u8])
     requires { RowsFit m w1.now × (n < 2048) × (file_length short_list n m ≤ length out.old) }
@@ -110,11 +88,12 @@ pub fn write_short(n: usize, carried: u64, w1: &[u64], m: usize, out: &mut [u8])
         ≡ onto (write_file short_list (record { cells = n; extra = carried ∷ []; entries = map as_fields es }))
         out.old) }
 {
-    put_header(format::SHORT_LIST, n, m, out);
-    put_number(
-        carried,
-        format::CARRIED_BYTES,
-        &mut out[format::HEADER_BYTES..],
+    put_header(Kind::ShortList, n, m, out);
+    put_number(carried, CARRIED_BYTES, &mut out[HEADER_BYTES..]);
+    put_numbers(
+        m,
+        Kind::ShortList.record_bytes(),
+        |i| short_word(w1[i], w1[map::CELL_WORDS + i]),
+        &mut out[SHORT_START..],
     );
-    put_rows(w1, m, &mut out[format::SHORT_START..]);
 }

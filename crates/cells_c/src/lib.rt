@@ -13,52 +13,43 @@ ghost use Rattle.lifting.specs.Calls.{solving, solve_file, lifting, lift_file, l
 ghost use Rattle.lifting.specs.Calls.{pairing as pairing_answer, pairing_file, pairing_origins};
 ghost use Rattle.tidying.specs.Calls.{tidying, tidy_file};
 ghost use Rattle.view.specs.Serving.{serving};
-ghost use Rattle.checks.specs.Calls.{answered};
+ghost use Rattle.checks.specs.Calls.{answered, one, two};
 ghost use Rattle.cells_c.specs.Numbers.{value_or};
 
-use checks::Lengths;
-use view::Served;
-use weighing::Weighed;
+use checks::Refusal;
 
-// The number of an answer; its first length goes to `one`.
-fn one_length(r: Lengths, one: &mut u64) -> u32
-    ensures { (result ≡ (answered r).0) × (one.new ≡ value_or 0 one.old (answered r)) }
+// The number of an answer; its value goes to `value`.
+fn one_value(r: Result<u64, Refusal>, value: &mut u64) -> u32
+    ensures { (result ≡ (answered one r).0) × (value.new ≡ value_or 0 value.old (answered one r)) }
 {
     match r {
-        Lengths::Refused(k) => k,
-        Lengths::One(i) => {
-            *one = i as u64;
+        Ok(v) => {
+            *value = v;
             0
         }
-        Lengths::Two {
-            first: i,
-            second: _,
-        } => {
-            *one = i as u64;
-            0
-        }
+        Err(refusal) => u32::from(refusal),
     }
 }
 
-// The number of an answer; its lengths go to `one` and `two`.
-fn two_lengths(r: Lengths, one: &mut u64, two: &mut u64) -> u32
-    ensures { (result ≡ (answered r).0) × (one.new ≡ value_or 0 one.old (answered r))
-        × (two.new ≡ value_or 1 two.old (answered r)) }
+// The same of a length.
+fn one_length(r: Result<usize, Refusal>, length: &mut u64) -> u32
+    ensures { (result ≡ (answered one r).0) × (length.new ≡ value_or 0 length.old (answered one r)) }
+{
+    one_value(r.map(|k| k as u64), length)
+}
+
+// The number of an answer; its lengths go to `first` and `second`.
+fn two_lengths(r: Result<(usize, usize), Refusal>, first: &mut u64, second: &mut u64) -> u32
+    ensures { (result ≡ (answered two r).0) × (first.new ≡ value_or 0 first.old (answered two r))
+        × (second.new ≡ value_or 1 second.old (answered two r)) }
 {
     match r {
-        Lengths::Refused(k) => k,
-        Lengths::One(i) => {
-            *one = i as u64;
+        Ok((i, j)) => {
+            *first = i as u64;
+            *second = j as u64;
             0
         }
-        Lengths::Two {
-            first: i,
-            second: j,
-        } => {
-            *one = i as u64;
-            *two = j as u64;
-            0
-        }
+        Err(refusal) => u32::from(refusal),
     }
 }
 
@@ -77,13 +68,7 @@ pub extern "C" fn cells_weigh(
     ensures cleared { Cleared work_a.old work_a.new
         × Cleared work_b.old work_b.new }
 {
-    match weighing::weigh(list, pairing, work_a, work_b) {
-        Weighed::Refused(k) => k,
-        Weighed::Points(p) => {
-            *points = p;
-            0
-        }
-    }
+    one_value(weighing::weigh(list, pairing, work_a, work_b), points)
 }
 
 #[unsafe(no_mangle)]
@@ -279,17 +264,11 @@ pub extern "C" fn cells_entry(
         × (b.new ≡ value_or 1 b.old (serving list.now place))
         × (points.new ≡ value_or 2 points.old (serving list.now place)) }
 {
-    match view::entry_of(list, place as usize) {
-        Served::Nothing => 0,
-        Served::Entry {
-            a: x,
-            b: y,
-            points: w,
-        } => {
-            *a = x as u64;
-            *b = y as u64;
-            *points = w;
-            1
-        }
-    }
+    let Some(e) = view::entry_of(list, place as usize) else {
+        return 0;
+    };
+    *a = e.a as u64;
+    *b = e.b as u64;
+    *points = e.points;
+    1
 }

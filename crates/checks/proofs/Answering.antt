@@ -17,7 +17,9 @@ use Rattle.checks.specs.Refusals.{Row, first, too_few_words, short_output}
 use Rattle.cellfile.specs.Answers.{Answer, answer, written}
 use Rattle.buffers.specs.Buffers.{lent}
 use Rattle.checks.proofs.Rows.{or_none}
-use Rattle.checks.proofs.Layers.{layer_refused, layer_passed}
+use Rattle.checks.specs.Calls.{number}
+use Rattle.checks.specs.declared.Refusal.{Refusal}
+use Rattle.checks.proofs.Layers.{number_some, after_refused, after_passed, refusal_answers}
 use Rattle.checks.specs.Calls.{call_rows, room_row, filing, answering}
 use Rattle.checks.specs.Answering.{Output, lengths, rooms, Does, Enough}
 
@@ -34,34 +36,30 @@ enough_words w1 w2 e f =
 abbrev pub Unchanged : List Output → Type 0
 Unchanged outs = All (λ (o : Output). o.2 ≡ o.1) outs
 
-refused_written : (n k v : ℕ) (vs file out : List ℕ) → (k, []) ≡ answer n (v ∷ vs) → out ≡ written k file out
-refused_written zero k v vs file out e = absurd (omega (arith, ap (λ (a : Answer). length a.1) e))
-refused_written (suc n) k v vs file out e =
-    let q : k ≡ suc n = ap (λ (a : Answer). a.0) e in
-    rw q
+refused_written : (k : ℕ) (file out : List ℕ) → 0 < k → out ≡ written k file out
+refused_written zero file out h = absurd (omega arith)
+refused_written (suc k) file out h = refl
 
 -- ---- rows, and those after them
 
--- rows in two parts
-parted : (rows more : List Row) (outs : List Output) (a : Answer)
-    → a ≡ answer (first (rows ++ (more ++ (room_row (rooms outs) ∷ [])))) (lengths outs)
-    → a ≡ answer (first ((rows ++ more) ++ (room_row (rooms outs) ∷ []))) (lengths outs)
-parted rows more outs a e =
-    e ∙ ap (λ rs. answer (first rs) (lengths outs)) (sym (append_assoc rows more (room_row (rooms outs) ∷ [])))
-
 module _ (rows more : List Row) {outs : List Output} where
-  pub refused : (v : ℕ) (vs : List ℕ) {k : ℕ} → (k, []) ≡ answer (first rows) (v ∷ vs) → Unchanged outs
-      → Does (rows ++ more) outs (k, [])
-  refused v vs {k} e h = record {
-    says = parted rows more outs (k, []) (layer_refused rows (more ++ (room_row (rooms outs) ∷ [])) (lengths outs) k v
-        vs e);
-    writes = all_map (λ o p. p ∙ refused_written (first rows) k v vs o.0 o.1 e) outs h;
+  pub refused : (r : Refusal) → number r ≡ first rows → Unchanged outs → Does (rows ++ more) outs (number r, [])
+  refused r e h = record {
+    says =
+        refusal_answers ((rows ++ more) ++ (room_row (rooms outs) ∷ [])) (lengths outs) r
+        (after_refused rows (more ++ (room_row (rooms outs) ∷ [])) r e
+        ∙ ap first (sym (append_assoc rows more (room_row (rooms outs) ∷ []))));
+    writes = all_map (λ o p. p ∙ refused_written (number r) o.0 o.1 (number_some r)) outs h;
   }
 
-  pub passed : {a : Answer} → All (λ (r : Row). 0 < r.0) rows → first rows ≡ 0 → Does more outs a
+  pub passed : {a : Answer} → All (λ (r : Row). 0 < r.0) rows → 0 ≡ first rows → Does more outs a
       → Does (rows ++ more) outs a
   passed {a} h e d = record {
-    says = parted rows more outs a (layer_passed rows (more ++ (room_row (rooms outs) ∷ [])) (lengths outs) h e d.says);
+    says =
+        d.says
+        ∙ ap (λ n. answer n (lengths outs))
+        (after_passed rows (more ++ (room_row (rooms outs) ∷ [])) h e refl
+        ∙ ap first (sym (append_assoc rows more (room_row (rooms outs) ∷ []))));
     writes = d.writes;
   }
 

@@ -1,28 +1,23 @@
 -- Laws of the conditions of 2 to 6 and 13, as the functions that check a list's form meet them: what a test that was
 -- passed or not says of the condition, and of the first row that holds.
 use Prim.Native.Nat.{ℕ, ◌+◌, ◌<◌, ◌≤◌}
-use mathlib.Core.Path.{◌≡◌, refl, sym, ◌∙◌}
+use mathlib.Core.Path.{◌≡◌, refl, sym, ap, subst, ◌∙◌}
 use mathlib.Core.Logic.{◌≢◌}
-use mathlib.Core.Bool.{Bool, true, false, not, cond, ◌||◌, or-false}
+use mathlib.Core.Bool.{Bool, true, false, not, cond, ◌||◌}
 use mathlib.Core.List.{List, [], ◌∷◌, map}
 use native.Mathlib.Omega.{arith}
 use native.Mathlib.Numerals.{add-one}
-use lib.Dec.{eqb, ltb, leb}
-use lib.ListN.{length, drop, drop_of_length-le}
-use borrow.Author.Tests.{lt-ltb, le-ltb, le-leb, lt-leb, eq-eqb, ne_eqb}
-use Rattle.cellfile.specs.Files.{cells_of, count_of, key, entry_key, file_length, raw_list, list_layout, entries_all}
-use Rattle.checks.specs.Refusals.{Row, ascending_from, first, too_few_words, lists, list_rows, is_no_list, is_too_large}
+use lib.Dec.{leb}
+use lib.ListN.{drop, drop_of_length-le}
+use borrow.Author.Tests.{le-leb, lt-leb, ne_eqb}
+use Rattle.cellfile.specs.Files.{cells_of, count_of, key, entry_key, raw_list, entries_all}
+use Rattle.checks.specs.Refusals.{Row, ascending_from, first, is_no_list, is_too_large}
 use Rattle.checks.specs.Refusals.{wrong_length, stray_pair, stray_entry, unordered, loose_pair, is_bad_raw}
-use Rattle.checks.specs.Calls.{call_rows}
-use Rattle.checks.specs.Loops.{head_rows, entry_rows, some_from, WholeFile}
-use Rattle.cellfile.specs.Answers.{Answer, answer}
-use Rattle.buffers.specs.Buffers.{lent}
-use Rattle.cellfile.specs.Reads.{HeaderRead, EntryRead}
+use Rattle.checks.specs.Loops.{head_rows, entry_rows, some_from}
+use Rattle.cellfile.specs.Reads.{EntryRead}
 use Rattle.cellfile.proofs.Walk.{entries_count, entry_next}
-use Rattle.checks.proofs.Rows.{first_none, wrong_length_none}
-use Rattle.checks.proofs.Layers.{layer_passed}
+use Rattle.checks.proofs.Rows.{first_none}
 use Rattle.cellfile.specs.declared.decode.Entry.{Entry}
-use Rattle.cellfile.specs.declared.decode.Header.{Header}
 
 -- a pair of cells that 5 or 9 refuses, or not
 module _ (n a b : ℕ) where
@@ -108,65 +103,6 @@ module _ (s : List ℕ) where
   pub entries_6 : {k : ℕ} → stray_entry s ≡ false → first ((6, unordered s) ∷ []) ≡ k → k ≡ first (entry_rows s)
   entries_6 e f = rw e (sym f)
 
-module _ (s : List ℕ) (h : Header) (r : HeaderRead s h) where
-  pub kind_wrong : (kind : ℕ) → 4 ≤ length s → (h.kind ≡ kind → ⊥) → true ≡ is_no_list (kind ∷ []) s
-  unfolding is_no_list
-  kind_wrong kind l k = rw (le-ltb (length s) 4 l, ← r.kind, ne_eqb kind h.kind (λ e. k (omega arith)))
-
-  pub kind_right : (kind : ℕ) → 4 ≤ length s → h.kind ≡ kind → not (eqb h.zeros 0) ≡ is_no_list (kind ∷ []) s
-  unfolding is_no_list
-  kind_right kind l k = rw (le-ltb (length s) 4 l, ← r.kind, eq-eqb kind h.kind (omega arith), ← r.zeros)
-
-  pub cells_many : 1024 < h.n → true ≡ is_too_large s
-  unfolding is_too_large
-  cells_many k = rw (← r.n, lt-ltb 1024 h.n k)
-
-  pub cells_few : h.n ≤ 1024 → ltb 4096 h.m ≡ is_too_large s
-  unfolding is_too_large
-  cells_few k = rw (← r.n, le-ltb 1024 h.n k, ← r.m)
-
-  pub values_are : (h.n ∷ h.m ∷ []) ≡ (cells_of s ∷ count_of s ∷ [])
-  values_are = rw (r.n, r.m)
-
-pub length_wrong : (s : List ℕ) (m : ℕ) {k : ℕ} → m ≡ count_of s → k ≡ file_length (list_layout s) (cells_of s) m
-    → (length s ≡ k → ⊥) → wrong_length s ≡ true
-unfolding wrong_length
-length_wrong s m e f n =
-    rw (ne_eqb (length s) (file_length (list_layout s) (cells_of s) (count_of s)) (λ q. n (q ∙ rw (f, e))))
-
-pub length_right : (s : List ℕ) (m : ℕ) {k : ℕ} → m ≡ count_of s → k ≡ file_length (list_layout s) (cells_of s) m
-    → length s ≡ k → wrong_length s ≡ false
-unfolding wrong_length
-length_right s m e f q =
-    rw (eq-eqb (length s) (file_length (list_layout s) (cells_of s) (count_of s)) (q ∙ rw (f, e)))
-
--- the first row of a header that holds
-module _ (kinds s : List ℕ) where
-  pub head_2 : is_no_list kinds s ≡ true → 2 ≡ first (head_rows kinds s)
-  head_2 a = rw a
-
-  module _ (a : is_no_list kinds s ≡ false) where
-    pub head_3 : is_too_large s ≡ true → 3 ≡ first (head_rows kinds s)
-    head_3 b = rw (a, b)
-
-    module _ (b : is_too_large s ≡ false) where
-      pub head_4 : wrong_length s ≡ true → 4 ≡ first (head_rows kinds s)
-      head_4 d = rw (a, b, d)
-
-      pub head_none : wrong_length s ≡ false → 0 ≡ first (head_rows kinds s)
-      head_none d = rw (a, b, d)
-
--- a header that passes, and the rows of the entries then
-module _ (kinds s : List ℕ) (e : first (head_rows kinds s) ≡ 0) where
-  pub head_whole : (m : ℕ) → m ≡ count_of s → WholeFile (list_layout s) s m
-  head_whole m c =
-      let h = first_none (head_rows kinds s) (omega arith) e in
-      record { count = c; long = omega (arith, wrong_length_none s h.1.1.0) }
-
-  pub entries_left : (values : List ℕ) {a : Answer} → a ≡ answer (first (entry_rows s)) values
-      → a ≡ answer (first (list_rows kinds s)) values
-  entries_left values p = layer_passed (head_rows kinds s) (entry_rows s) values (omega arith) e p
-
 -- 13 by the rows of the header, and by the entries
 module _ (s : List ℕ) where
   abbrev heads : List Row
@@ -186,16 +122,9 @@ module _ (s : List ℕ) where
   unfolding is_bad_raw
   raw_entries e n = let h = first_none heads (omega arith) e in rw (h.0, h.1.0, h.1.1.0, n)
 
--- refusal 1, and the rows behind it
-module _ (a b : List ℕ) where
-  pub few_first : length a < 8192 → true ≡ too_few_words (lent a b)
-  unfolding too_few_words
-  few_first l = rw (lt-ltb (length a) 8192 l)
-
-  pub few_second : 8192 ≤ length a → ltb (length b) 8192 ≡ too_few_words (lent a b)
-  unfolding too_few_words
-  few_second l = rw (le-ltb (length a) 8192 l, or-false)
-
-pub call_on : (s values : List ℕ) {few : Bool} → few ≡ false
-    → answer (first (list_rows lists s)) values ≡ answer (first (call_rows few s)) values
-call_on s values e = rw e
+  -- of entries whose file it is
+  pub raw_found : {t : List ℕ} {n : ℕ} {b : Bool} → t ≡ s → 0 ≡ first heads → n ≡ cells_of t
+      → b ≡ some_from (loose_pair n) t 0 → b ≡ is_bad_raw s
+  raw_found {n = n} {b = b} e h c p =
+      subst (λ (t : List ℕ). b ≡ some_from (loose_pair n) t 0) e p
+      ∙ raw_entries (sym h) (c ∙ ap cells_of e)

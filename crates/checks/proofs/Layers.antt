@@ -9,20 +9,35 @@ use mathlib.Core.Logic.{◌≢◌, ◌↔◌}
 use mathlib.Core.Bool.{Bool, true, false, cond}
 use mathlib.Core.List.{List, [], ◌∷◌, ◌++◌}
 use native.Mathlib.Omega.{arith}
-use lib.ListN.{length}
 use Rattle.checks.specs.Refusals.{Row, first, too_few_words, lists, list_rows}
-use Rattle.checks.specs.Calls.{call_rows}
+use Rattle.checks.specs.Calls.{number, call_rows}
+use Rattle.checks.specs.declared.Refusal.{Refusal}
+use Rattle.checks.specs.declared.Refusal.TheVariants.{FewWords, NoList, TooLarge, WrongLength, StrayEntry, Unordered}
+use Rattle.checks.specs.declared.Refusal.TheVariants.{BadSlip, Disallowed, BadPairing, NoPairing, Crowded, ShortOutput}
+use Rattle.checks.specs.declared.Refusal.TheVariants.{BadRaw}
 use Rattle.cellfile.specs.Answers.{Answer, answer}
 use Rattle.matching.specs.Lists.{All}
 use Rattle.matching.proofs.Alls.{all_append}
 use Rattle.checks.proofs.Rows.{first_none, list_none}
 
--- ---- answers
+-- ---- refusals
 
--- an answer with no value is a refusal, where an accepted one has a value
-pub answer_refused : (n k v : ℕ) (vs : List ℕ) → (k, []) ≡ answer n (v ∷ vs) → (0 < n) × (k ≡ n)
-answer_refused zero k v vs e = absurd (omega (arith, ap (λ (a : Answer). length a.1) e))
-answer_refused (suc n) k v vs e = (omega arith, ap (λ (a : Answer). a.0) e)
+pub number_some : (r : Refusal) → 0 < number r
+number_some FewWords = omega arith
+number_some NoList = omega arith
+number_some TooLarge = omega arith
+number_some WrongLength = omega arith
+number_some StrayEntry = omega arith
+number_some Unordered = omega arith
+number_some BadSlip = omega arith
+number_some Disallowed = omega arith
+number_some BadPairing = omega arith
+number_some NoPairing = omega arith
+number_some Crowded = omega arith
+number_some ShortOutput = omega arith
+number_some BadRaw = omega arith
+
+-- ---- answers
 
 -- a refusal's number is that of the rows
 pub answer_number : (n k : ℕ) (vs : List ℕ) → 0 < k → (answer n vs ≡ (k, [])) ↔ (n ≡ k)
@@ -56,23 +71,22 @@ pub first_passed : (rows more : List Row) → All (λ (r : Row). r.1 ≡ false) 
 first_passed [] more h = refl
 first_passed (r ∷ rows) more h = rw (h.0, first_passed rows more h.1)
 
-module _ (rows more : List Row) (values : List ℕ) where
-  pub rows_refused : {k : ℕ} → k ≡ first rows → 0 < k → (k, []) ≡ answer (first (rows ++ more)) values
-  rows_refused {k} e h =
-      sym ((answer_number (first (rows ++ more)) k values h).1 (first_refused rows more (omega (arith, e)) ∙ sym e))
+-- what a check refuses is refused with any rows behind its own, and where it passes they decide
+module _ (rows more : List Row) where
+  pub after_refused : (r : Refusal) → number r ≡ first rows → number r ≡ first (rows ++ more)
+  after_refused r e = e ∙ sym (first_refused rows more (omega (arith, e, number_some r)))
 
-  pub layer_refused : (k v : ℕ) (vs : List ℕ) → (k, []) ≡ answer (first rows) (v ∷ vs)
-      → (k, []) ≡ answer (first (rows ++ more)) values
-  layer_refused k v vs e =
-      let r = answer_refused (first rows) k v vs e in rows_refused r.1 (omega (arith, r))
+  pub after_passed : {k : ℕ} → All (λ (r : Row). 0 < r.0) rows → 0 ≡ first rows → k ≡ first more
+      → k ≡ first (rows ++ more)
+  after_passed h e p = p ∙ sym (first_passed rows more (first_none rows h (sym e)))
 
-  pub layer_passed : {a : Answer} → All (λ (r : Row). 0 < r.0) rows → first rows ≡ 0
-      → a ≡ answer (first more) values → a ≡ answer (first (rows ++ more)) values
-  layer_passed h e p = p ∙ ap (λ n. answer n values) (sym (first_passed rows more (first_none rows h e)))
+-- the answer of a refusal, and where no row holds
+pub refusal_answers : (rows : List Row) (values : List ℕ) (r : Refusal) → number r ≡ first rows
+    → (number r, []) ≡ answer (first rows) values
+refusal_answers rows values r e = sym ((answer_number (first rows) (number r) values (number_some r)).1 (sym e))
 
--- where no row holds the answer is the values
-pub rows_none : (rows : List Row) (values : List ℕ) → first rows ≡ 0 → (0, values) ≡ answer (first rows) values
-rows_none rows values e = rw e
+pub values_answer : (rows : List Row) (values : List ℕ) → 0 ≡ first rows → (0, values) ≡ answer (first rows) values
+values_answer rows values e = rw (← e)
 
 -- ---- the rows of a call: 1, those of the list, and more
 

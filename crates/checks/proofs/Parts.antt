@@ -1,88 +1,25 @@
 -- Laws of refusals 7 and 9, as the functions that check a slip's and a pairing's form meet them.
 -- In order: the header; the rules; the pairs; the answers.
-use Prim.Native.Nat.{ℕ, suc, ◌+◌, ◌*◌, ◌<◌, ◌≤◌}
-use mathlib.Core.Path.{◌≡◌, refl}
+use Prim.Native.Nat.{ℕ, ◌+◌, ◌<◌, ◌≤◌}
+use mathlib.Core.Path.{◌≡◌, refl, subst}
 use mathlib.Core.Bool.{Bool, true, false, not, ◌||◌}
-use mathlib.Core.List.{List, [], ◌∷◌}
+use mathlib.Core.List.{List}
 use native.Mathlib.Omega.{arith}
-use native.Mathlib.Nat.{mul-le-mul}
 use native.Mathlib.Numerals.{add-one}
 use lib.Dec.{eqb}
-use lib.ListN.{length, drop, drop_of_length-le}
+use lib.ListN.{drop, drop_of_length-le}
 use borrow.Author.Tests.{lt-ltb, le-ltb, le-leb, lt-leb, eq-eqb, ne_eqb}
 use Rattle.matching.specs.Lists.{any}
-use Rattle.cellfile.specs.Files.{Layout, slip, pairing, cells_of, count_of, steps_of, read_entries}
-use Rattle.checks.specs.Refusals.{first, stray_pair, misheaded, is_no_rule, bad_slip, bad_pair, bad_pairing}
-use Rattle.cellfile.specs.Answers.{answer}
-use Rattle.cellfile.specs.Words.{Plain}
-use Rattle.cellfile.specs.Reads.{HeaderRead, StepRead, PairRead}
-use Rattle.checks.specs.Loops.{WholeFile, has_bad_pairs}
-use Rattle.cellfile.specs.declared.decode.Header.{Header}
+use Rattle.cellfile.specs.Files.{slip, pairing, count_of, steps_of, read_entries}
+use Rattle.checks.specs.Refusals.{stray_pair, misheaded, is_no_rule, bad_slip, bad_pair, bad_pairing}
+use Rattle.cellfile.specs.Reads.{StepRead, PairRead}
+use Rattle.checks.specs.Loops.{has_bad_pairs}
 use Rattle.cellfile.specs.declared.decode.SlipStep.{SlipStep}
 use Rattle.cellfile.specs.declared.decode.PairEntry.{PairEntry}
 use Rattle.cellfile.proofs.Walk.{steps_count, step_next, fields_count, fields_next}
-use Rattle.checks.proofs.Rows.{misheaded_none}
 use Rattle.checks.proofs.Forms.{stray_high, stray_turned, stray_not}
 
 -- ---- the header
-
-pub entries_fit : (k m : ℕ) → k ≤ 8 → m < 8192 → k * m ≤ 65536
-entries_fit k m p q = omega (arith, mul-le-mul {n₁ = k} {m₁ = m} {n₂ = 8} {m₂ = 8192} p (omega arith))
-
-module _ (kind k n : ℕ) (s : List ℕ) (l : Layout) (d : Plain l kind k) where
-  pub head_short : length s < 4 → true ≡ misheaded l n s
-  unfolding misheaded
-  head_short p = rw (lt-ltb (length s) 4 p)
-
-  module _ (h : Header) (r : HeaderRead s h) (long : 4 ≤ length s) where
-    pub head_kind : (h.kind ≡ kind → ⊥) → true ≡ misheaded l n s
-    unfolding misheaded
-    head_kind p = rw (le-ltb (length s) 4 long, ← r.kind, d.kind_is, ne_eqb h.kind kind p)
-
-    module _ (a : h.kind ≡ kind) where
-      pub head_cells : (h.n ≡ n → ⊥) → true ≡ misheaded l n s
-      unfolding misheaded
-      head_cells p =
-          rw (
-            le-ltb (length s) 4 long,
-            ← r.kind,
-            d.kind_is,
-            eq-eqb h.kind kind a,
-            ← r.n,
-            ne_eqb h.n n p,
-          )
-
-      module _ (b : h.n ≡ n) where
-        pub head_zeros : (h.zeros ≡ 0 → ⊥) → true ≡ misheaded l n s
-        unfolding misheaded
-        head_zeros p =
-            rw (
-              le-ltb (length s) 4 long,
-              ← r.kind,
-              d.kind_is,
-              eq-eqb h.kind kind a,
-              ← r.n,
-              eq-eqb h.n n b,
-              ← r.zeros,
-              ne_eqb h.zeros 0 p,
-            )
-
-        pub head_length : h.zeros ≡ 0 → not (eqb (length s) (4 + k * h.m)) ≡ misheaded l n s
-        unfolding misheaded
-        head_length p =
-            rw (
-              le-ltb (length s) 4 long,
-              d.bare (cells_of s),
-              d.bytes_are,
-              ← r.kind,
-              d.kind_is,
-              eq-eqb h.kind kind a,
-              ← r.n,
-              eq-eqb h.n n b,
-              ← r.zeros,
-              eq-eqb h.zeros 0 p,
-              ← r.m,
-            )
 
 -- ---- the rules of a slip
 
@@ -152,32 +89,21 @@ module _ (s : List ℕ) (n i : ℕ) (l : i < count_of s) (p : PairEntry) (r : Pa
 
 -- ---- the answers
 
--- a file whose header is right is as long as it says
-pub head_whole : (l : Layout) (n : ℕ) (s : List ℕ) (h : Header) → HeaderRead s h → misheaded l n s ≡ false
-    → WholeFile l s h.m
-head_whole l n s h r p = record { count = r.m; long = omega (arith, (misheaded_none l n s p).3) }
-
 module _ (n : ℕ) (s : List ℕ) where
-  pub slip_head : (taken : ℕ × ℕ) → misheaded slip n s ≡ true → bad_slip taken n s ≡ true
+  pub slip_headed : (taken : ℕ × ℕ) → misheaded slip n s ≡ true → bad_slip taken n s ≡ true
   unfolding bad_slip
-  slip_head taken p = rw p
+  slip_headed taken p = rw p
 
-  pub slip_rest : (taken : ℕ × ℕ) → misheaded slip n s ≡ false → bad_slip taken n s ≡ ruleless_from taken s 0
+  pub slip_found : (taken : ℕ × ℕ) {t : List ℕ} {b : Bool} → t ≡ s → misheaded slip n s ≡ false
+      → b ≡ ruleless_from taken t 0 → b ≡ bad_slip taken n s
   unfolding bad_slip
-  slip_rest taken p = rw p
+  slip_found taken {b = b} e p h = rw p (subst (λ (t : List ℕ). b ≡ ruleless_from taken t 0) e h)
 
-  pub pairing_head : misheaded pairing n s ≡ true → bad_pairing n s ≡ true
+  pub pairing_headed : misheaded pairing n s ≡ true → bad_pairing n s ≡ true
   unfolding bad_pairing
-  pairing_head p = rw p
+  pairing_headed p = rw p
 
-  pub pairing_rest : misheaded pairing n s ≡ false → bad_pairing n s ≡ bad_from n 0 s 0
+  pub pairing_found : {t : List ℕ} {b : Bool} → t ≡ s → misheaded pairing n s ≡ false
+      → b ≡ bad_from n 0 t 0 → b ≡ bad_pairing n s
   unfolding bad_pairing
-  pairing_rest p = rw p
-
--- the answer of one row alone
-pub row_holds : (k : ℕ) {t : Bool} (values : List ℕ) → t ≡ true → (suc k, []) ≡ answer (first ((suc k, t) ∷ [])) values
-row_holds k values p = rw p
-
-pub row_fails : (k n : ℕ) {t : Bool} (s : List ℕ) (h : Header) → HeaderRead s h → t ≡ false
-    → (0, n ∷ h.m ∷ []) ≡ answer (first ((k, t) ∷ [])) (n ∷ count_of s ∷ [])
-row_fails k n s h r p = rw (p, r.m)
+  pairing_found {b = b} e p h = rw p (subst (λ (t : List ℕ). b ≡ bad_from n 0 t 0) e h)

@@ -2,6 +2,5 @@
 pub mod Refusals
 pub mod Calls
 pub mod Answering
-pub mod Checking
 pub mod Loops
 pub mod Merging

@@ -1,16 +1,11 @@
 -- What the contracts of the checks cite. Nobody has to believe these: laws tie them to the refusals' definitions
 -- (proofs/Forms, proofs/Parts).
-use Rattle.std.specs.Prelude.{ℕ, ◌≤◌, ◌≡◌, Bool, not, ◌||◌, List, [], ◌∷◌, map, length, get_or, drop}
+use Rattle.std.specs.Prelude.{ℕ, Bool, not, ◌||◌, List, [], ◌∷◌, map, get_or, drop}
 use Rattle.matching.specs.Lists.{any}
 use Rattle.matching.specs.Listed.{Entry}
-use Rattle.cellfile.specs.Files.{Layout, file_length, cells_of, count_of, entries_all}
+use Rattle.cellfile.specs.Files.{entries_all}
 use Rattle.checks.specs.Refusals.{Row, is_no_list, is_too_large, wrong_length, stray_entry, unordered}
 use Rattle.checks.specs.Refusals.{ascending_from, bad_pair}
-
--- A file of m records with all the bytes that its header says.
-pub record WholeFile (l : Layout) (s : List ℕ) (m : ℕ) : Type 0 where
-  pub count : m ≡ count_of s
-  pub long : file_length l (cells_of s) (count_of s) ≤ length s
 
 -- The rows of a list's header and length, and those of its entries, which one walk over them decides: together the rows
 -- of the list.

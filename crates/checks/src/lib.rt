@@ -1,323 +1,290 @@
-// Inner, for the calls: checks the form of a list (refusals 2 to 6), a slip (7), a pairing (9) and a raw list (13); and
-// looks up pairs in a list.
+// Inner, for the calls: the refusals; checks the form of a list (refusals 2 to 6), a slip (7), a pairing (9) and a raw
+// list (13), and hands on what passes; and looks up pairs in a list.
 #![tactic(auto)]
 
-ghost use Rattle.std.specs.Prelude.{◌≡◌, ◌∷◌, [], ℕ, ◌≤◌, ◌<◌};
+mod lists;
+
+ghost use Rattle.std.specs.Prelude.{◌≡◌, ◌∷◌, [], ◌≤◌, ◌<◌, ℕ, true, false, length, OnOk, IfOk, MatchOption, MatchResult};
 ghost use Rattle.matching.specs.Lists.{any};
-ghost use Rattle.cellfile.specs.Files.{Layout, slip as slip_layout, pairing as pairing_layout, cells_of, count_of};
-ghost use Rattle.cellfile.specs.Files.{steps_of};
-ghost use Rattle.cellfile.specs.Files.{read_entries, list_layout};
-ghost use Rattle.checks.specs.Refusals.{first, too_few_words, lists, list_rows, is_no_list, is_too_large};
-ghost use Rattle.checks.specs.Refusals.{misheaded, rules, is_no_rule, bad_slip, bad_pairing, loose_pair, is_bad_raw};
-ghost use Rattle.cellfile.specs.Words.{Plain};
-ghost use Rattle.cellfile.specs.Answers.{answer};
+ghost use Rattle.cellfile.specs.Files.{steps_of, pairing as pairing_layout, read_entries};
+ghost use Rattle.cellfile.specs.Kinds.{layout_of};
+ghost use Rattle.checks.specs.Refusals.{first, too_few_words, lists as list_kinds, list_rows, misheaded};
+ghost use Rattle.checks.specs.Refusals.{is_no_rule, bad_slip, bad_pairing, stray_pair, loose_pair, is_bad_raw};
 ghost use Rattle.buffers.specs.Buffers.{lent};
-ghost use Rattle.checks.specs.Calls.{call_rows};
-ghost use Rattle.checks.specs.Checking.{checked};
-ghost use Rattle.checks.specs.Loops.{WholeFile, head_rows, entry_rows, has_bad_pairs, some_from};
+ghost use Rattle.checks.specs.Calls.{number, refusal_in, call_rows};
+ghost use Rattle.checks.specs.Loops.{head_rows, entry_rows, has_bad_pairs, some_from};
 ghost use Rattle.checks.specs.Merging.{Seeks};
 
 use buffers::map::WORDS;
-use cellfile::{decode, format};
+use cellfile::decode::{self, PairEntry, SlipStep};
+use cellfile::format::{HEADER_BYTES, Kind};
+use cellfile::records::{self, Entries, Record, Records};
+pub use lists::StoreList;
 
-// A file's refusal, or its cells n and its count m.
-#[derive(Clone, Copy)]
-pub enum Checked {
-    Refused(u32),
-    Accepted { n: usize, m: usize },
+// Why a call refuses, by the numbers that it answers.
+#[derive(Clone, Copy, PartialEq, Eq)]
+pub enum Refusal {
+    FewWords = 1,
+    NoList = 2,
+    TooLarge = 3,
+    WrongLength = 4,
+    StrayEntry = 5,
+    Unordered = 6,
+    BadSlip = 7,
+    Disallowed = 8,
+    BadPairing = 9,
+    NoPairing = 10,
+    Crowded = 11,
+    ShortOutput = 12,
+    BadRaw = 13,
 }
 
-// The answer of a call that writes files: a refusal's number, or the length of each file.
-#[derive(Clone, Copy)]
-pub enum Lengths {
-    Refused(u32),
-    One(usize),
-    Two { first: usize, second: usize },
+impl From<Refusal> for u32 {
+    ghost from_gives = { λ refusal k. k ≡ number refusal };
+
+    fn from(refusal: Refusal) -> u32 {
+        refusal as u32
+    }
 }
 
 const MOST_CELLS: usize = 1024;
 
 const MOST_ENTRIES: usize = 4096;
 
-// Refusal 2, for lists of one kind.
-fn not_a_list(list: &[u8], kind: u64) -> bool
-    ensures { result ≡ is_no_list (kind ∷ []) list.now }
+// Refusals 2 to 4, for lists of one kind.
+fn check_head(list: &[u8], kind: Kind) -> Result<Entries<'_>, Refusal>
+    ensures refusal { refusal_in result ≡ first (head_rows ((layout_of kind).kind ∷ []) list.now) }
+    ensures list { IfOk result (λ entries. entries.file.now ≡ list.now) }
 {
-    if list.len() < 4 {
-        return true;
+    if list.len() < HEADER_BYTES {
+        return Err(Refusal::NoList);
     }
     let h = decode::header_at(list);
-    if h.kind != kind {
-        return true;
+    if h.kind != u64::from(kind) || h.zeros != 0 {
+        return Err(Refusal::NoList);
     }
-    h.zeros != 0
+    if MOST_CELLS < h.n || MOST_ENTRIES < h.m {
+        return Err(Refusal::TooLarge);
+    }
+    if list.len() != records::list_bytes(list, h.m) {
+        return Err(Refusal::WrongLength);
+    }
+    Ok(Entries::new(list, h.n, h.m))
 }
 
-// Refusal 3.
-fn too_large(list: &[u8]) -> bool
-    ensures { result ≡ is_too_large list.now }
+// Whether a cell is not below n, or a not below b.
+fn is_stray(n: usize, a: usize, b: usize) -> bool
+    ensures { result ≡ stray_pair n a b }
 {
-    let h = decode::header_at(list);
-    if MOST_CELLS < h.n {
-        return true;
-    }
-    MOST_ENTRIES < h.m
+    n <= b || b <= a
 }
 
-// Refusals 5 and 6, in one walk over the entries: the number of the first that holds, or 0.
-fn check_entries(list: &[u8], n: usize, m: usize) -> u32
-    requires { WholeFile (list_layout list.now) list.now m × (n ≡ cells_of list.now) }
-    ensures { result ≡ first (entry_rows list.now) }
+// Refusals 5 and 6, in one walk over the entries.
+fn check_entries(entries: &Entries) -> Result<(), Refusal>
+    ensures { refusal_in result ≡ first (entry_rows entries.now.file.now) }
 {
-    let shape = decode::shape_of(list);
-    let mut k: u32 = 0;
+    let mut order = Ok(());
     let mut low: usize = 0;
-    let mut i = 0;
-    while i < m {
-        let e = decode::list_entry(list, shape, i);
-        if n <= e.b {
-            return 5;
-        }
-        if e.b <= e.a {
-            return 5;
+    for i in 0..entries.m {
+        let e = entries.get(i);
+        if is_stray(entries.n, e.a, e.b) {
+            return Err(Refusal::StrayEntry);
         }
         let key = e.a * 1024 + e.b;
         if key < low {
-            k = 6;
+            order = Err(Refusal::Unordered);
         }
         low = key + 1;
-        i += 1;
     }
-    k
-}
-
-// Refusals 2 to 4, for lists of one kind: the number of the first that holds, or 0.
-fn check_head(list: &[u8], kind: u64) -> u32
-    ensures { result ≡ first (head_rows (kind ∷ []) list.now) }
-{
-    if not_a_list(list, kind) {
-        return 2;
-    }
-    if too_large(list) {
-        return 3;
-    }
-    let h = decode::header_at(list);
-    let m = h.m;
-    if list.len() != decode::list_length(list, m) {
-        return 4;
-    }
-    0
+    order
 }
 
 // Refusals 2 to 6.
-pub fn check_list(list: &[u8]) -> Checked
-    ensures { checked result ≡ answer (first (list_rows lists list.now))
-        (cells_of list.now ∷ count_of list.now ∷ []) }
+pub fn check_list(list: &[u8]) -> Result<StoreList<'_>, Refusal>
+    ensures refusal { refusal_in result ≡ first (list_rows list_kinds list.now) }
+    ensures list { IfOk result (λ l. l.entries.file.now ≡ list.now) }
 {
-    let k = check_head(list, format::STORE_LIST);
-    if k > 0 {
-        return Checked::Refused(k);
-    }
-    let h = decode::header_at(list);
-    let n = h.n;
-    let m = h.m;
-    let k = check_entries(list, n, m);
-    if k > 0 {
-        return Checked::Refused(k);
-    }
-    Checked::Accepted { n, m }
+    let entries = check_head(list, Kind::StoreList)?;
+    check_entries(&entries)?;
+    Ok(StoreList { entries })
 }
 
-// Whether some entry of a raw list has one cell twice or a cell not below n.
-fn loose_entries(raw: &[u8], n: usize, m: usize) -> bool
-    requires { WholeFile (list_layout raw.now) raw.now m }
-    ensures { result ≡ some_from (loose_pair n) raw.now 0 }
+// Whether it is one cell twice, or a cell is not below n.
+fn is_loose(n: usize, a: usize, b: usize) -> bool
+    ensures { result ≡ loose_pair n a b }
 {
-    let shape = decode::shape_of(raw);
-    let mut i = 0;
-    while i < m {
-        let e = decode::list_entry(raw, shape, i);
-        if e.a == e.b {
+    a == b || n <= a || n <= b
+}
+
+// Whether some entry of a raw list has such cells.
+fn has_loose(entries: &Entries) -> bool
+    ensures { result ≡ some_from (loose_pair entries.now.n) entries.now.file.now 0 }
+{
+    for i in 0..entries.m {
+        let e = entries.get(i);
+        if is_loose(entries.n, e.a, e.b) {
             return true;
         }
-        if n <= e.a {
-            return true;
-        }
-        if n <= e.b {
-            return true;
-        }
-        i += 1;
     }
     false
 }
 
 // Refusal 13.
-pub fn bad_raw(raw: &[u8]) -> bool
-    ensures { result ≡ is_bad_raw raw.now }
+pub fn check_raw(raw: &[u8]) -> Result<Entries<'_>, Refusal>
+    ensures refusal { refusal_in result ≡ first ((13, is_bad_raw raw.now) ∷ []) }
+    ensures list { IfOk result (λ entries. entries.file.now ≡ raw.now) }
 {
-    if check_head(raw, format::RAW_LIST) > 0 {
-        return true;
+    let Ok(entries) = check_head(raw, Kind::RawList) else {
+        return Err(Refusal::BadRaw);
+    };
+    if has_loose(&entries) {
+        return Err(Refusal::BadRaw);
     }
-    let h = decode::header_at(raw);
-    loose_entries(raw, h.n, h.m)
+    Ok(entries)
 }
 
 // Refusal 1.
-pub fn few_words(work_a: &[u64], work_b: &[u64]) -> bool
-    ensures { result ≡ too_few_words (lent work_a.now work_b.now) }
+pub fn check_work(work_a: &[u64], work_b: &[u64]) -> Result<(), Refusal>
+    ensures refusal { refusal_in result ≡ first ((1, too_few_words (lent work_a.now work_b.now)) ∷ []) }
+    ensures enough { OnOk result ((8192 ≤ length work_a.now) × (8192 ≤ length work_b.now)) }
 {
-    if work_a.len() < WORDS {
-        return true;
+    if work_a.len() < WORDS || work_b.len() < WORDS {
+        return Err(Refusal::FewWords);
     }
-    work_b.len() < WORDS
+    Ok(())
 }
 
-// Refusals 1 to 6; `few` says whether 1 holds.
-pub fn check_call(few: bool, list: &[u8]) -> Checked
-    ensures { checked result ≡ answer (first (call_rows few list.now))
-        (cells_of list.now ∷ count_of list.now ∷ []) }
+// Refusals 1 to 6.
+pub fn check_call<'a>(
+    list: &'a [u8],
+    work_a: &[u64],
+    work_b: &[u64],
+) -> Result<StoreList<'a>, Refusal>
+    ensures refusal { refusal_in result
+        ≡ first (call_rows (too_few_words (lent work_a.now work_b.now)) list.now) }
+    ensures enough { OnOk result ((8192 ≤ length work_a.now) × (8192 ≤ length work_b.now)) }
+    ensures list { IfOk result (λ l. l.entries.file.now ≡ list.now) }
 {
-    if few {
-        return Checked::Refused(1);
-    }
+    check_work(work_a, work_b)?;
     check_list(list)
 }
 
-// What refusals 7 and 9 share, for a layout of that kind with records of so many bytes.
-fn wrong_head(s: &[u8], kind: u64, bytes: usize, n: usize) -> bool
-    requires { bytes ≤ 8 }
-    ensures { (l : Layout) → Plain l kind bytes → result ≡ misheaded l n s.now }
+// Refusal 12 of one output, for a file of that size.
+pub fn check_room(out: &[u8], size: usize) -> Result<(), Refusal>
+    ensures { MatchResult result (λ _. size ≤ length out.now)
+        (λ refusal. (refusal ≡ Refusal.ShortOutput) × (length out.now < size)) }
 {
-    if s.len() < 4 {
-        return true;
+    if out.len() < size {
+        return Err(Refusal::ShortOutput);
     }
-    let h = decode::header_at(s);
-    if h.kind != kind {
-        return true;
+    Ok(())
+}
+
+// What refusals 7 and 9 share: the records of a file whose header and length are right.
+fn headed<R: Record>(file: &[u8], n: usize) -> Option<Records<'_, R>>
+    ensures { MatchOption result (misheaded (layout_of R.KIND) n file.now ≡ true)
+        (λ records. (misheaded (layout_of R.KIND) n file.now ≡ false) × (records.file.now ≡ file.now)) }
+{
+    if file.len() < HEADER_BYTES {
+        return None;
     }
-    if h.n != n {
-        return true;
+    let h = decode::header_at(file);
+    if h.kind != u64::from(R::KIND) || h.n != n || h.zeros != 0 {
+        return None;
     }
-    if h.zeros != 0 {
-        return true;
+    if file.len() != R::KIND.file_bytes(h.m) {
+        return None;
     }
-    s.len() != format::HEADER_BYTES + bytes * h.m
+    Some(Records::new(file, h.m))
 }
 
 // Whether some step has a rule below `low` or above `high`.
-fn no_rule(slip: &[u8], m: usize, low: u64, high: u64) -> bool
-    requires { WholeFile slip_layout slip.now m }
-    ensures { result ≡ any (λ (t : ℕ × ℕ). is_no_rule (low, high) t.0) (steps_of slip.now) }
+fn has_no_rule(steps: &Records<'_, SlipStep>, low: u64, high: u64) -> bool
+    ensures { result ≡ any (λ (t : ℕ × ℕ). is_no_rule (low, high) t.0) (steps_of steps.now.file.now) }
 {
-    let mut i = 0;
-    while i < m {
-        let t = decode::slip_step(slip, i);
-        if t.rule < low {
+    for i in 0..steps.count {
+        let rule = steps.get(i).rule;
+        if rule < low || high < rule {
             return true;
         }
-        if high < t.rule {
-            return true;
-        }
-        i += 1;
     }
     false
 }
 
 // Whether some entry has a set zero bit or not a < b < n, or a does not ascend.
-fn bad_pairs(pairing: &[u8], n: usize, m: usize) -> bool
-    requires { WholeFile pairing_layout pairing.now m }
-    ensures { result ≡ has_bad_pairs n 0 (read_entries pairing_layout pairing.now) }
+fn has_bad_pair(pairs: &Records<'_, PairEntry>, n: usize) -> bool
+    ensures { result ≡ has_bad_pairs n 0 (read_entries pairing_layout pairs.now.file.now) }
 {
     let mut low: usize = 0;
-    let mut i = 0;
-    while i < m {
-        let p = decode::pairing_pair(pairing, i);
-        let a = p.a;
-        if n <= p.b {
-            return true;
-        }
-        if p.b <= a {
-            return true;
-        }
-        if p.zeros != 0 {
-            return true;
-        }
-        if a < low {
+    for i in 0..pairs.count {
+        let PairEntry { a, b, zeros } = pairs.get(i);
+        if is_stray(n, a, b) || zeros != 0 || a < low {
             return true;
         }
         low = a + 1;
-        i += 1;
     }
     false
 }
 
 // Refusal 7, of a slip for a list of n cells, whose rules are from `low` to `high`.
-pub fn check_slip(slip: &[u8], n: usize, low: u64, high: u64) -> Checked
-    ensures { checked result ≡ answer (first ((7, bad_slip (low, high) n slip.now) ∷ []))
-        (n ∷ count_of slip.now ∷ []) }
+pub fn check_slip(
+    slip: &[u8],
+    n: usize,
+    low: u64,
+    high: u64,
+) -> Result<Records<'_, SlipStep>, Refusal>
+    ensures refusal { refusal_in result ≡ first ((7, bad_slip (low, high) n slip.now) ∷ []) }
+    ensures slip { IfOk result (λ steps. steps.file.now ≡ slip.now) }
 {
-    if wrong_head(slip, format::SLIP, format::STEP_BYTES, n) {
-        return Checked::Refused(7);
+    let Some(steps) = headed(slip, n) else {
+        return Err(Refusal::BadSlip);
+    };
+    if has_no_rule(&steps, low, high) {
+        return Err(Refusal::BadSlip);
     }
-    let h = decode::header_at(slip);
-    let m = h.m;
-    if no_rule(slip, m, low, high) {
-        return Checked::Refused(7);
-    }
-    Checked::Accepted { n, m }
+    Ok(steps)
 }
 
 // Refusal 9, of a pairing for a list of n cells.
-pub fn check_pairing(pairing: &[u8], n: usize) -> Checked
-    ensures { checked result ≡ answer (first ((9, bad_pairing n pairing.now) ∷ []))
-        (n ∷ count_of pairing.now ∷ []) }
+pub fn check_pairing(pairing: &[u8], n: usize) -> Result<Records<'_, PairEntry>, Refusal>
+    ensures refusal { refusal_in result ≡ first ((9, bad_pairing n pairing.now) ∷ []) }
+    ensures pairing { IfOk result (λ pairs. pairs.file.now ≡ pairing.now) }
 {
-    if wrong_head(pairing, format::PAIRING, format::PAIR_BYTES, n) {
-        return Checked::Refused(9);
+    let Some(pairs) = headed(pairing, n) else {
+        return Err(Refusal::BadPairing);
+    };
+    if has_bad_pair(&pairs, n) {
+        return Err(Refusal::BadPairing);
     }
-    let h = decode::header_at(pairing);
-    let m = h.m;
-    if bad_pairs(pairing, n, m) {
-        return Checked::Refused(9);
-    }
-    Checked::Accepted { n, m }
+    Ok(pairs)
 }
 
-// Whether a pair is an entry, the entry's points, and the place behind it.
+// The points of an entry that was looked for, and the place behind it.
 #[derive(Clone, Copy)]
 pub struct Match {
-    pub there: bool,
     pub points: u64,
     pub next: usize,
 }
 
-// Looks for the pair a, b from place i of a list of m entries on. They ascend, so the search ends at the first entry
-// that is not before the pair.
-pub fn seek(list: &[u8], m: usize, i: usize, a: usize, b: usize) -> Match
-    requires { WholeFile (list_layout list.now) list.now m × (i ≤ m) × (a < 1024) × (b < 1024) }
-    ensures { Seeks list.now i (a, b) result }
+// Looks for the pair a, b from place i on. The entries ascend, so the search ends at the first one that is not before
+// the pair.
+pub fn seek(entries: &Entries, i: usize, a: usize, b: usize) -> Option<Match>
+    requires { (i ≤ entries.now.m) × (a < 1024) × (b < 1024) }
+    ensures { Seeks entries.now.file.now i (a, b) result }
 {
-    let shape = decode::shape_of(list);
     let want = a * 1024 + b;
-    let mut at = i;
-    while at < m {
-        let e = decode::list_entry(list, shape, at);
+    for at in i..entries.m {
+        let e = entries.get(at);
         let have = e.a * 1024 + e.b;
-        at += 1;
-        if have == want {
-            return Match {
-                there: true,
-                points: e.points,
-                next: at,
-            };
-        }
         if want < have {
-            break;
+            return None;
+        }
+        if have == want {
+            return Some(Match {
+                points: e.points,
+                next: at + 1,
+            });
         }
     }
-    Match {
-        there: false,
-        points: 0,
-        next: m,
-    }
+    None
 }

@@ -1,10 +1,10 @@
 -- `ask` by what its three calls did. In order: a file read again from its output, and buffers cleared twice; what `ask`
--- is given, what each call did with it and what `ask` promises (`Given`, `ReplayDid`, `LiftDid`, `WeighDid`,
--- `Promised`); where replay, lift or weigh refuses (`replay_refused`, `lift_refused`, `weigh_refused`); where all three
--- answer, demand 3 holds of what they answered and wrote (`all_answered`). Assumes nothing.
-use mathlib.Core.Path.{◌≡◌, refl, sym, ap, ap₂, subst, ◌∙◌}
+-- is given and what each call did with it (`Given`, `ReplayDid`, `LiftDid`, `WeighDid`); where replay and lift answer,
+-- the lifted file fits its output (`lift_room`), and `ask` answers what weigh does (`weighs_next`); where weigh answers
+-- too, demand 3 holds of what the calls answered and wrote (`keeps_all`). Assumes nothing.
+use mathlib.Core.Path.{◌≡◌, sym, ap, ap₂, subst, ◌∙◌}
 use mathlib.Core.List.{List, [], ◌∷◌, ◌++◌}
-use Prim.Native.Nat.{ℕ, zero, suc, ◌≤◌, ◌<◌}
+use Prim.Native.Nat.{ℕ, ◌≤◌}
 use native.Mathlib.Omega.{arith}
 use lib.ListN.{length, take, drop, length-replicate}
 use lib.Seq.{take-append_seam}
@@ -12,20 +12,14 @@ use Rattle.matching.specs.Listed.{Entry, points}
 use Rattle.cellfile.specs.Files.{onto, pairs_of}
 use Rattle.cellfile.proofs.Lists.{view_all}
 use Rattle.buffers.specs.Buffers.{lent, zeros, Cleared}
-use Rattle.checks.specs.Refusals.{first, too_few_words}
 use Rattle.cellfile.specs.Answers.{Answer, written}
 use Rattle.weighing.specs.Weigh.{weighing}
-use Rattle.checks.specs.Calls.{call_rows}
-use Rattle.checks.proofs.Layers.{answer_refused, answer_accepted}
 use Rattle.reduction.specs.Calls.{replay_short, replaying}
-use Rattle.starting.specs.Steps.{slip_rows}
-use Rattle.lifting.specs.Calls.{lifting, lift_rows, lift_file, lift_origins}
+use Rattle.lifting.specs.Calls.{lifting, lift_file, lift_origins}
 use Rattle.claims.specs.Demand.{Allowed, Liftable}
 use Rattle.claims.specs.Claims.{Wrote}
-use Rattle.claims.specs.Asking.{asked, and_then, lifts as lifts_after, asking, Told, Tells}
-use Rattle.claims.specs.declared.Asked.{Asked}
-use Rattle.claims.specs.declared.Asked.TheVariants.{Refused, Answered}
-use Rattle.claims.proofs.Demand.{with_room, with_rooms, demand_three}
+use Rattle.claims.specs.Asking.{and_then, asking, Told}
+use Rattle.claims.proofs.Demand.{demand_three}
 use Rattle.claims.proofs.Origins.{origin_claim}
 use Rattle.claims.proofs.Answers.{zero_tells}
 
@@ -104,20 +98,6 @@ module _ (g : Given) where
   WeighDid lifted' a'' b'' j x a''' b''' =
       (x ≡ weighing g.list (take j lifted') (lent a'' b'')) × (Cleared a'' a''' × Cleared b'' b''')
 
-  -- What `ask` promises of its answer, its outputs and the work buffers.
-  abbrev pub Promised : Asked → (short' lifted' origins' a' b' : List ℕ) → Type 0
-  Promised r short' lifted' origins' a' b' =
-      (asked r ≡ asking g.list g.slip g.pairing (lent g.a g.b) (length g.short) (length g.lifted)
-      (length g.origins))
-      × (((short' ≡ written (replaying g.list g.slip (lent g.a g.b) (length g.short)).0
-      (replay_short g.list g.slip) g.short)
-      × (lifted' ≡ written (lifts_after g.list g.slip g.pairing (lent g.a g.b) (length g.short)
-      (length g.lifted) (length g.origins)).0 (lift_file g.list g.slip g.pairing) g.lifted)
-      × (origins' ≡ written (lifts_after g.list g.slip g.pairing (lent g.a g.b) (length g.short)
-      (length g.lifted) (length g.origins)).0 (lift_origins g.list g.slip g.pairing) g.origins))
-      × (Tells g.list g.slip g.pairing short' lifted' origins' r
-      × (Cleared g.a a' × Cleared g.b b')))
-
   abbrev replays : Answer
   replays = replaying g.list g.slip words (length g.short)
 
@@ -130,64 +110,9 @@ module _ (g : Given) where
   abbrev onward : List ℕ → Answer → Answer
   onward i x = and_then x (λ j. ended i j (weighing g.list lift_file_is words))
 
-  abbrev after_lift : ℕ → List ℕ
-  after_lift k = written k lift_file_is g.lifted
-
-  abbrev after_origins : ℕ → List ℕ
-  after_origins k = written k origin_file_is g.origins
-
-  short_out : {x : Answer} {short' a' b' : List ℕ} → ReplayDid x short' a' b'
-      → short' ≡ written replays.0 short_file_is g.short
-  short_out r = r.1.0 ∙ ap (λ (y : Answer). written y.0 short_file_is g.short) r.0
-
-  -- replay answers one length
-  pub replay_one : {x : Answer} {i j : ℕ} {short' a' b' : List ℕ} → x ≡ (0, i ∷ j ∷ []) → ReplayDid x short' a' b' → ⊥
-  replay_one {i = i} {j = j} e r =
-      let is = answer_accepted
-      (first (call_rows (too_few_words words) g.list
-      ++ with_room (slip_rows g.list g.slip) (length g.short) short_file_is)) (i ∷ j ∷ [])
-      (length short_file_is ∷ []) (sym e ∙ r.0) in
-      omega (arith, ap length is.1)
-
-  -- ---- replay refuses
-
-  refused_first : {k : ℕ} {short' a' b' : List ℕ} → ReplayDid (k, []) short' a' b'
-      → Promised (Refused k) short' g.lifted g.origins a' b'
-  refused_first {k} r = (
-    ap (λ (x : Answer). and_then x (λ i. onward i lifts)) r.0,
-    (
-      (
-        short_out r,
-        stays lift_file_is g.lifted k positive
-            ∙ ap (λ (x : Answer). after_lift (and_then x (λ i. lifts)).0) r.0,
-        stays origin_file_is g.origins k positive
-            ∙ ap (λ (x : Answer). after_origins (and_then x (λ i. lifts)).0) r.0,
-      ),
-      (tt, r.1.1),
-    ),
-  )
-    where
-      positive : 0 < k
-      positive =
-          let q =
-          answer_refused (first (call_rows (too_few_words words) g.list
-          ++ with_room (slip_rows g.list g.slip) (length g.short) short_file_is)) k
-          (length short_file_is) [] r.0 in omega (arith, q.0, q.1)
-
-      stays : (file out : List ℕ) (k : ℕ) → 0 < k → out ≡ written k file out
-      stays file out zero h = (let z : ⊥ = omega arith in absurd z)
-      stays file out (suc k) h = refl
-
-  pub replay_refused : {x : Answer} {k : ℕ} {short' a' b' : List ℕ} → x ≡ (k, []) → ReplayDid x short' a' b'
-      → Promised (Refused k) short' g.lifted g.origins a' b'
-  replay_refused {short' = short'} {a'} {b'} e r = refused_first (subst (λ y. ReplayDid y short' a' b') e r)
-
   -- ---- replay answers i
 
-  module _ {x : Answer} {i : ℕ} {short' a' b' : List ℕ} (e : x ≡ (0, i ∷ [])) (did : ReplayDid x short' a' b') where
-    abbrev r : ReplayDid (0, i ∷ []) short' a' b'
-    r = subst (λ y. ReplayDid y short' a' b') e did
-
+  module _ {i : ℕ} {short' a' b' : List ℕ} (r : ReplayDid (0, i ∷ []) short' a' b') where
     -- lift is lent the buffers that replay cleared
     lifts_here : {x : Answer} {lifted' origins' a'' b'' : List ℕ} → LiftDid a' b' x lifted' origins' a'' b'' → lifts ≡ x
     lifts_here l =
@@ -200,119 +125,71 @@ module _ (g : Given) where
         ≡ onward (i ∷ []) lifts
     lift_next = ap (λ (x : Answer). and_then x (λ i. onward i lifts)) (sym r.0)
 
-    outs : {x : Answer} {lifted' origins' a'' b'' : List ℕ} → LiftDid a' b' x lifted' origins' a'' b''
-        → (short' ≡ written replays.0 short_file_is g.short)
-        × (lifted' ≡ after_lift (and_then replays (λ i. lifts)).0)
-        × (origins' ≡ after_origins (and_then replays (λ i. lifts)).0)
-    outs l = (
-      short_out r,
-      l.1.0.0 ∙ sym (ap (λ (x : Answer). after_lift x.0) (lifts_here l))
-          ∙ ap (λ (x : Answer). after_lift (and_then x (λ i. lifts)).0) r.0,
-      l.1.0.1 ∙ sym (ap (λ (x : Answer). after_origins x.0) (lifts_here l))
-          ∙ ap (λ (x : Answer). after_origins (and_then x (λ i. lifts)).0) r.0,
-    )
-
-    -- lift answers two
-    pub lift_two : {z : Answer} {j : ℕ} {lifted' origins' a'' b'' : List ℕ} → z ≡ (0, j ∷ [])
-        → LiftDid a' b' z lifted' origins' a'' b'' → ⊥
-    lift_two {j = j} f l =
-        let is = answer_accepted (first (call_rows (too_few_words (lent a' b')) g.list
-        ++ with_rooms (lift_rows g.list g.slip g.pairing) (length g.lifted) (length g.origins) lift_file_is
-        origin_file_is)) (j ∷ []) (length lift_file_is ∷ length origin_file_is ∷ [])
-        (sym f ∙ l.0) in
-        omega (arith, ap length is.1)
-
-    pub lift_refused : {y : Answer} {k : ℕ} {lifted' origins' a'' b'' : List ℕ} → y ≡ (k, [])
-        → LiftDid a' b' y lifted' origins' a'' b'' → Promised (Refused k) short' lifted' origins' a'' b''
-    lift_refused f l = (
-      sym (lift_next ∙ ap (onward (i ∷ [])) (lifts_here l ∙ f)),
-      (outs l, (tt, clear_again g.a g.b r.1.1 l.1.1)),
-    )
-
     -- ---- lift answers j and o
 
-    module _ {y : Answer} {j o : ℕ} {lifted' origins' a'' b'' : List ℕ} (f : y ≡ (0, j ∷ o ∷ []))
-        (lifted : LiftDid a' b' y lifted' origins' a'' b'') where
-      abbrev l : LiftDid a' b' (0, j ∷ o ∷ []) lifted' origins' a'' b''
-      l = subst (λ z. LiftDid a' b' z lifted' origins' a'' b'') f lifted
+    module _ {j o : ℕ} {lifted' origins' a'' b'' : List ℕ} (l : LiftDid a' b' (0, j ∷ o ∷ []) lifted' origins' a'' b'')
+      where
+        lift_zero : Allowed g.list g.slip × Liftable g.list g.slip g.pairing
+            × Wrote (lift_file g.list g.slip g.pairing) words (length g.lifted) j
+            × Wrote (lift_origins g.list g.slip g.pairing) words (length g.origins) o
+        lift_zero =
+            zero_tells.lift g.list g.slip g.pairing words (length g.lifted) (length g.origins) j o
+            (lifts_here l)
 
-      lift_zero : Allowed g.list g.slip × Liftable g.list g.slip g.pairing
-          × Wrote (lift_file g.list g.slip g.pairing) words (length g.lifted) j
-          × Wrote (lift_origins g.list g.slip g.pairing) words (length g.origins) o
-      lift_zero =
-          zero_tells.lift g.list g.slip g.pairing words (length g.lifted) (length g.origins) j o
-          (lifts_here l)
+        pub lift_room : j ≤ length g.lifted
+        lift_room = let w = lift_zero.2 in omega (arith, w.fits, w.value)
 
-      pub lift_room : j ≤ length g.lifted
-      lift_room = let w = lift_zero.2 in omega (arith, w.fits, w.value)
+        lifted_again : take j lifted' ≡ lift_file_is
+        lifted_again = ap (take j) l.1.0.0 ∙ file_again lift_file_is g.lifted j lift_zero.2.value
 
-      lifted_again : take j lifted' ≡ lift_file_is
-      lifted_again = ap (take j) l.1.0.0 ∙ file_again lift_file_is g.lifted j lift_zero.2.value
+        origins_again : take o origins' ≡ origin_file_is
+        origins_again = ap (take o) l.1.0.1 ∙ file_again origin_file_is g.origins o lift_zero.3.value
 
-      origins_again : take o origins' ≡ origin_file_is
-      origins_again = ap (take o) l.1.0.1 ∙ file_again origin_file_is g.origins o lift_zero.3.value
+        abbrev clear : Clears g.a g.b a'' b''
+        clear = clear_again g.a g.b r.1.1 l.1.1
 
-      abbrev clear : Clears g.a g.b a'' b''
-      clear = clear_again g.a g.b r.1.1 l.1.1
+        pub weighs_next : {x : Answer} {a''' b''' : List ℕ} → WeighDid lifted' a'' b'' j x a''' b'''
+            → ended (i ∷ []) (j ∷ o ∷ []) x
+            ≡ asking g.list g.slip g.pairing words (length g.short) (length g.lifted)
+            (length g.origins)
+        weighs_next v =
+            ap (ended (i ∷ []) (j ∷ o ∷ [])) v.0
+            ∙ ap₂ (λ (f ws : List ℕ). ended (i ∷ []) (j ∷ o ∷ []) (weighing g.list f ws)) lifted_again
+            (lent_again g.a g.b clear)
+            ∙ sym (lift_next ∙ ap (onward (i ∷ [])) (lifts_here l))
 
-      weighs_next : {x : Answer} {a''' b''' : List ℕ} → WeighDid lifted' a'' b'' j x a''' b'''
-          → ended (i ∷ []) (j ∷ o ∷ []) x
-          ≡ asking g.list g.slip g.pairing words (length g.short) (length g.lifted)
-          (length g.origins)
-      weighs_next v =
-          ap (ended (i ∷ []) (j ∷ o ∷ [])) v.0
-          ∙ ap₂ (λ (f ws : List ℕ). ended (i ∷ []) (j ∷ o ∷ []) (weighing g.list f ws)) lifted_again
-          (lent_again g.a g.b clear)
-          ∙ sym (lift_next ∙ ap (onward (i ∷ [])) (lifts_here l))
+        -- ---- weigh answers p
 
-      pub weigh_refused : {z : Answer} {k : ℕ} {a''' b''' : List ℕ} → z ≡ (k, [])
-          → WeighDid lifted' a'' b'' j z a''' b'''
-          → Promised (Refused k) short' lifted' origins' a''' b'''
-      weigh_refused d v = (
-        sym (ap (ended (i ∷ []) (j ∷ o ∷ [])) d) ∙ weighs_next v,
-        (outs l, (tt, clear_again g.a g.b clear v.1)),
-      )
+        pub keeps_all : {p : ℕ} {a''' b''' : List ℕ} → WeighDid lifted' a'' b'' j (0, p ∷ []) a''' b'''
+            → Told g.list g.slip g.pairing (take i short') (take j lifted') (take o origins') p
+        keeps_all {p = p} v =
+            subst (λ (f : List ℕ). Told g.list g.slip g.pairing f (take j lifted') (take o origins') p)
+            (sym short_is)
+            (subst (λ (f : List ℕ). Told g.list g.slip g.pairing short_file_is f (take o origins') p)
+            (sym lifted_again)
+            (subst (λ (f : List ℕ). Told g.list g.slip g.pairing short_file_is lift_file_is f p) (sym origins_again)
+            kept))
+          where
+            short_is : take i short' ≡ short_file_is
+            short_is =
+                ap (take i) r.1.0
+                ∙ file_again short_file_is g.short i
+                (zero_tells.replay g.list g.slip words (length g.short) i (sym r.0)).1.value
 
-      -- ---- weigh answers p
-
-      keeps_all : {z : Answer} {p : ℕ} {a''' b''' : List ℕ} → z ≡ (0, p ∷ []) → WeighDid lifted' a'' b'' j z a''' b'''
-          → Told g.list g.slip g.pairing (take i short') (take j lifted') (take o origins') p
-      keeps_all {p = p} d v =
-          subst (λ (f : List ℕ). Told g.list g.slip g.pairing f (take j lifted') (take o origins') p)
-          (sym short_is)
-          (subst (λ (f : List ℕ). Told g.list g.slip g.pairing short_file_is f (take o origins') p)
-          (sym lifted_again)
-          (subst (λ (f : List ℕ). Told g.list g.slip g.pairing short_file_is lift_file_is f p) (sym origins_again)
-          kept))
-        where
-          short_is : take i short' ≡ short_file_is
-          short_is =
-              ap (take i) r.1.0
-              ∙ file_again short_file_is g.short i
-              (zero_tells.replay g.list g.slip words (length g.short) i (sym r.0)).1.value
-
-          kept : Told g.list g.slip g.pairing short_file_is lift_file_is origin_file_is p
-          kept =
-              let h = lift_zero in
-              let three = demand_three g.list g.slip h.0 in
-              let keeps = (three.2 g.pairing h.1).1 in
-              record {
-                exactly =
-                    (zero_tells.weigh g.list lift_file_is (lent a'' b'') p
-                    (ap (λ (f : List ℕ). weighing g.list f (lent a'' b'')) (sym lifted_again) ∙ sym v.0 ∙ d)).3
-                    ∙ ap (λ (es : List Entry). points es (pairs_of lift_file_is)) (sym (view_all g.list))
-                    ∙ keeps.exact;
-                short_keeps = three.1;
-                lift_keeps = keeps;
-                steps = h.0.steps;
-                named = h.0.stand;
-                from = origin_claim g.list g.slip h.0 g.pairing h.1;
-              }
-
-      pub all_answered : {z : Answer} {p : ℕ} {a''' b''' : List ℕ} → z ≡ (0, p ∷ [])
-          → WeighDid lifted' a'' b'' j z a''' b'''
-          → Promised (Answered i j o p) short' lifted' origins' a''' b'''
-      all_answered d v = (
-        sym (ap (ended (i ∷ []) (j ∷ o ∷ [])) d) ∙ weighs_next v,
-        (outs l, (keeps_all d v, clear_again g.a g.b clear v.1)),
-      )
+            kept : Told g.list g.slip g.pairing short_file_is lift_file_is origin_file_is p
+            kept =
+                let h = lift_zero in
+                let three = demand_three g.list g.slip h.0 in
+                let keeps = (three.2 g.pairing h.1).1 in
+                record {
+                  exactly =
+                      (zero_tells.weigh g.list lift_file_is (lent a'' b'') p
+                      (ap (λ (f : List ℕ). weighing g.list f (lent a'' b'')) (sym lifted_again) ∙ sym v.0)).3
+                      ∙ ap (λ (es : List Entry). points es (pairs_of lift_file_is)) (sym (view_all g.list))
+                      ∙ keeps.exact;
+                  short_keeps = three.1;
+                  lift_keeps = keeps;
+                  steps = h.0.steps;
+                  named = h.0.stand;
+                  from = origin_claim g.list g.slip h.0 g.pairing h.1;
+                }

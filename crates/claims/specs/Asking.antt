@@ -1,6 +1,6 @@
 -- What a function that calls replay, lift and weigh one after the other answers and writes, and what it is told: demand
 -- 3 of the very bytes that the calls wrote and of the points that weigh answered. Law: proofs/Telling, `all_answered`.
-use Rattle.std.specs.Prelude.{◌≡◌, List, [], ◌∷◌, ◌++◌, ℕ, ◌+◌, take}
+use Rattle.std.specs.Prelude.{◌≡◌, List, [], ◌∷◌, ◌++◌, ℕ, ◌+◌, take, Result, IfOk}
 use Rattle.matching.specs.Listed.{points}
 use Rattle.matching.specs.Steps.{Step}
 use Rattle.cellfile.specs.Files.{pairs_of, carried_of}
@@ -10,13 +10,12 @@ use Rattle.reduction.specs.Calls.{replaying}
 use Rattle.lifting.specs.Calls.{lifting, lift_file}
 use Rattle.claims.specs.Demand.{short_of, Names, ShortKeeps, LiftKeeps}
 use Rattle.claims.specs.Claims.{OriginClaim}
+use Rattle.checks.specs.declared.Refusal.{Refusal}
 use Rattle.claims.specs.declared.Asked.{Asked}
-use Rattle.claims.specs.declared.Asked.TheVariants.{Refused, Answered}
 
--- The number and the values of each case of the answer.
-abbrev pub asked : Asked → Answer
-asked (Refused k) = (k, [])
-asked (Answered i j k p) = (0, i ∷ j ∷ k ∷ p ∷ [])
+-- The values of the answer.
+abbrev pub four : Asked → List ℕ
+four a = a.short ∷ a.lifted ∷ a.origins ∷ a.points ∷ []
 
 -- The next call, with the values of this one; a refusal has none and ends.
 abbrev pub and_then : Answer → (List ℕ → Answer) → Answer
@@ -47,7 +46,6 @@ pub record Told (list slip pairing short lifted origins : List ℕ) (weighed : �
   pub from : OriginClaim list pairing lifted origins steps
 
 -- That, where all three answer, of the first bytes of the outputs, as many as replay and lift answered.
-abbrev pub Tells : (list slip pairing short lifted origins : List ℕ) → Asked → Type 0
-Tells list slip pairing short lifted origins (Refused k) = Unit {0}
-Tells list slip pairing short lifted origins (Answered i j k p) =
-    Told list slip pairing (take i short) (take j lifted) (take k origins) p
+abbrev pub Tells : (list slip pairing short lifted origins : List ℕ) → Result Asked Refusal → Type 0
+Tells list slip pairing short lifted origins r =
+    IfOk r (λ a. Told list slip pairing (take a.short short) (take a.lifted lifted) (take a.origins origins) a.points)

@@ -6,28 +6,24 @@
 ghost use Rattle.std.specs.Prelude.{◌≡◌, length};
 ghost use Rattle.buffers.specs.Buffers.{lent, Cleared};
 ghost use Rattle.cellfile.specs.Answers.{written};
+ghost use Rattle.checks.specs.Calls.{answered};
 ghost use Rattle.reduction.specs.Calls.{replaying, replay_short};
 ghost use Rattle.lifting.specs.Calls.{lift_file, lift_origins};
-ghost use Rattle.claims.specs.Asking.{asked, lifts, asking, Tells};
+ghost use Rattle.claims.specs.Asking.{four, lifts, asking, Tells};
 
-use checks::Lengths;
-use weighing::Weighed;
+use checks::Refusal;
 
-// The refusal of the first call that refuses, or the lengths that replay and lift answer and the points that weigh
-// does.
+// The lengths that replay and lift answer, and the points that weigh does.
 #[derive(Clone, Copy)]
-pub enum Asked {
-    Refused(u32),
-    Answered {
-        short: usize,
-        lifted: usize,
-        origins: usize,
-        points: u64,
-    },
+pub struct Asked {
+    pub short: usize,
+    pub lifted: usize,
+    pub origins: usize,
+    pub points: u64,
 }
 
-// Replays the slip, lifts the pairing and weighs what is lifted; replay answers one length and lift two. Every word of
-// the work buffers is zero afterwards.
+// Replays the slip, lifts the pairing and weighs what is lifted; or the refusal of the first call that refuses. Every
+// word of the work buffers is zero afterwards.
 fn ask(
     list: &[u8],
     slip: &[u8],
@@ -37,8 +33,8 @@ fn ask(
     short: &mut [u8],
     lifted: &mut [u8],
     origins: &mut [u8],
-) -> Asked
-    ensures answer { asked result ≡ asking list.now slip.now pairing.now
+) -> Result<Asked, Refusal>
+    ensures answer { answered four result ≡ asking list.now slip.now pairing.now
         (lent work_a.old work_b.old) (length short.old)
         (length lifted.old) (length origins.old) }
     ensures outputs { (short.new ≡ written (replaying list.now slip.now
@@ -57,26 +53,13 @@ fn ask(
     ensures cleared { Cleared work_a.old work_a.new
         × Cleared work_b.old work_b.new }
 {
-    match reduction::replay(list, slip, work_a, work_b, short) {
-        Lengths::Refused(k) => Asked::Refused(k),
-        Lengths::One(i) => {
-            match lifting::lift(list, slip, pairing, work_a, work_b, lifted, origins) {
-                Lengths::Refused(k) => Asked::Refused(k),
-                Lengths::One(_) => Asked::Refused(0),
-                Lengths::Two {
-                    first: j,
-                    second: o,
-                } => match weighing::weigh(list, &lifted[..j], work_a, work_b) {
-                    Weighed::Refused(k) => Asked::Refused(k),
-                    Weighed::Points(p) => Asked::Answered {
-                        short: i,
-                        lifted: j,
-                        origins: o,
-                        points: p,
-                    },
-                },
-            }
-        }
-        Lengths::Two { .. } => Asked::Refused(0),
-    }
+    let i = reduction::replay(list, slip, work_a, work_b, short)?;
+    let (j, o) = lifting::lift(list, slip, pairing, work_a, work_b, lifted, origins)?;
+    let points = weighing::weigh(list, &lifted[..j], work_a, work_b)?;
+    Ok(Asked {
+        short: i,
+        lifted: j,
+        origins: o,
+        points,
+    })
 }

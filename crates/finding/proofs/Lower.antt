@@ -27,6 +27,8 @@ use Rattle.slots.proofs.Graphs.{holds_graph}
 use Rattle.slots.proofs.Holding.{joins_pair}
 use Rattle.slots.proofs.Scanning.{joins_turned}
 use Rattle.finding.specs.Finding.{Unnamed}
+use Rattle.finding.specs.Walks.{Onward}
+use Rattle.finding.specs.declared.Stop.{Stop}
 use Rattle.finding.proofs.Turned.{Back, back}
 use Rattle.finding.proofs.Ways.{last_in}
 
@@ -235,32 +237,35 @@ module _ {w : Points} (g : Graph 1024 w) {z last at next_last next_at seen : ℕ
 
 -- ---- the loop that walks both ways
 
--- A way stands at the cell `at` of the row, where it came from `last` by the slot.
-pub record WayAt (e : ℕ) (w1 : List ℕ) (r : Rule) (z last at slot : ℕ) : Type 0 where
-  pub joins : Joins e w1 slot last at
-  pub below : at < 1024
-  pub on : OnAll (graph_of e w1) r z at
+-- A way stands at a cell of the row.
+pub record WayAt (e : ℕ) (w1 : List ℕ) (r : Rule) (z : ℕ) (s : Stop) : Type 0 where
+  pub joins : Joins e w1 s.slot s.last s.end
+  pub below : s.end < 1024
+  pub on : OnAll (graph_of e w1) r z s.end
 
 -- Both ways, the lower cell that was seen, or z, and the cells that were passed.
-pub record Turns (e : ℕ) (w1 : List ℕ) (r : Rule) (z last at slot next_last next_at next_slot seen : ℕ) : Type 0 where
-  pub here : WayAt e w1 r z last at slot
-  pub next : WayAt e w1 r z next_last next_at next_slot
+pub record Turns (e : ℕ) (w1 : List ℕ) (r : Rule) (z : ℕ) (way other : Stop) (seen : ℕ) : Type 0 where
+  pub here : WayAt e w1 r z way
+  pub next : WayAt e w1 r z other
   pub lower : seen ≢ z → Lower (graph_of e w1) r z seen
   pub past : List ℕ
-  pub passed : Passed (graph_of e w1) z last at next_last next_at seen past
+  pub passed : Passed (graph_of e w1) z way.last way.end other.last other.end seen past
 
 module _ {e : ℕ} {w1 w2 : List ℕ} {r : Rule} (h : Holds e w1 w2) (d : r ≢ by_leaf) where
   abbrev w : Points
   w = graph_of e w1
 
   -- the partner of a cell of degree two on the row
-  stands : {z x y slot : ℕ} → OnAll w r z x → degree 1024 w x ≡ 2 → Joins e w1 slot x y → y < 1024
-      → WayAt e w1 r z x y slot
-  stands {z} {x} {y} {slot} on two j l = record {
+  stands : {z : ℕ} {s : Stop} → OnAll w r z s.last → degree 1024 w s.last ≡ 2 → Joins e w1 s.slot s.last s.end
+      → s.end < 1024 → WayAt e w1 r z s
+  stands {z} {s} on two j l = record {
     joins = j;
     below = l;
-    on = partner_on (holds_graph h) r z x y d on two (joins_pair h j);
+    on = partner_on (holds_graph h) r z s.last s.end d on two (joins_pair h j);
   }
+
+  goes_on : {z : ℕ} {s t : Stop} → OnAll w r z s.end → degree 1024 w s.end ≡ 2 → Onward e w1 s t → WayAt e w1 r z t
+  goes_on on two o = stands (rw o.last on) (rw o.last two) (rw o.last o.next.joins) o.next.below
 
   -- the two partners of a cell of degree two
   next_only : {x prev slot : ℕ} {s : Other} → degree 1024 w x ≡ 2 → Joins e w1 slot x prev → Next e w1 x prev s
@@ -276,67 +281,67 @@ module _ {e : ℕ} {w1 w2 : List ℕ} {r : Rule} (h : Holds e w1 w2) (d : r ≢ 
       go (a ∷ b ∷ c ∷ ps) q = absurd (omega (arith, ap length q))
 
   pub turns_start : {z f i : ℕ} → degree 1024 w z ≡ 2 → Joins e w1 i z f → f < 1024
-      → {s : Other} → Next e w1 z f s → Turns e w1 r z z f i z s.partner s.slot z
-  turns_start {z} two j l n =
+      → {t : Stop} → Onward e w1 (record { end = z; last = f; slot = i }) t
+      → Turns e w1 r z (record { end = f; last = z; slot = i }) t z
+  turns_start {z} two j l {t} o =
       let on = named_on w r z in
       let here = mem_head z z [] refl in
       record {
         here = stands on two j l;
-        next = stands on two n.joins n.below;
+        next = goes_on on two o;
         lower = λ q. absurd (q refl);
         past = z ∷ [];
         passed = record {
           named = here;
           here = here;
-          next = here;
+          next = mem_head t.last z [] (sym o.last);
           two = λ x m. rw (← mem_one x z m) two;
           low = λ q x m. omega (arith, mem_one x z m);
-          onward = λ x y m k. inr (next_only two j n y (rw (mem_one x z m) k));
+          onward = λ x y m k. inr (next_only two j o.next y (rw (mem_one x z m) k));
         };
       }
 
   -- the way whose turn it is goes on, and the other has its turn
-  pub turns_on : {z last at slot next_last next_at next_slot seen seen' : ℕ}
-      → Turns e w1 r z last at slot next_last next_at next_slot seen → degree 1024 w at ≡ 2
-      → ((at < z) × (seen' ≡ at)) ⊎ ((z ≤ at) × (seen' ≡ seen)) → {s : Other} → Next e w1 at last s
-      → Turns e w1 r z next_last next_at next_slot at s.partner s.slot seen'
-  turns_on {z} {last} {at} {slot} {next_last} {next_at} {next_slot} {seen} {seen'} t two k {s} n =
+  pub turns_on : {z seen seen' : ℕ} {way other : Stop} → Turns e w1 r z way other seen → degree 1024 w way.end ≡ 2
+      → ((way.end < z) × (seen' ≡ way.end)) ⊎ ((z ≤ way.end) × (seen' ≡ seen)) → {t : Stop} → Onward e w1 way t
+      → Turns e w1 r z other t seen'
+  turns_on {z} {seen} {seen'} {way} {other} s two k {t} o =
       record {
-        here = t.next;
-        next = stands t.here.on two n.joins n.below;
+        here = s.next;
+        next = goes_on s.here.on two o;
         lower = go k;
-        past = at ∷ t.past;
+        past = way.end ∷ s.past;
         passed = record {
-          named = mem_on z at t.past p.named;
-          here = mem_on next_last at t.past p.next;
-          next = mem_head at at t.past refl;
-          two = mem_more (λ x. degree 1024 w x ≡ 2) at t.past two p.two;
+          named = mem_on z way.end s.past p.named;
+          here = mem_on other.last way.end s.past p.next;
+          next = mem_head t.last way.end s.past (sym o.last);
+          two = mem_more (λ x. degree 1024 w x ≡ 2) way.end s.past two p.two;
           low = low k;
-          onward = λ x y m l. onward y (mem_cases x at t.past m) l;
+          onward = λ x y m l. onward y (mem_cases x way.end s.past m) l;
         };
       }
     where
-      p : Passed w z last at next_last next_at seen t.past
-      p = t.passed
+      p : Passed w z way.last way.end other.last other.end seen s.past
+      p = s.passed
 
-      go : ((at < z) × (seen' ≡ at)) ⊎ ((z ≤ at) × (seen' ≡ seen)) → seen' ≢ z → Lower w r z seen'
-      go (inl q) u = rw q.1 (record { on = t.here.on; below = q.0; two = two })
-      go (inr q) u = rw q.1 (t.lower (rw q.1 at u))
+      go : ((way.end < z) × (seen' ≡ way.end)) ⊎ ((z ≤ way.end) × (seen' ≡ seen)) → seen' ≢ z → Lower w r z seen'
+      go (inl q) u = rw q.1 (record { on = s.here.on; below = q.0; two = two })
+      go (inr q) u = rw q.1 (s.lower (rw q.1 at u))
 
-      low : ((at < z) × (seen' ≡ at)) ⊎ ((z ≤ at) × (seen' ≡ seen)) → seen' ≡ z
-          → (x : ℕ) → mem x (at ∷ t.past) ≡ true → z ≤ x
+      low : ((way.end < z) × (seen' ≡ way.end)) ⊎ ((z ≤ way.end) × (seen' ≡ seen)) → seen' ≡ z
+          → (x : ℕ) → mem x (way.end ∷ s.past) ≡ true → z ≤ x
       low (inl q) u = λ x m. absurd (omega arith)
-      low (inr q) u = mem_more (λ x. z ≤ x) at t.past q.0 (p.low (sym q.1 ∙ u))
+      low (inr q) u = mem_more (λ x. z ≤ x) way.end s.past q.0 (p.low (sym q.1 ∙ u))
 
-      onward : {x : ℕ} (y : ℕ) → (at ≡ x) ⊎ (mem x t.past ≡ true) → 0 < w x y
-          → (mem y (at ∷ t.past) ≡ true) ⊎ ((next_at ≡ y) ⊎ (s.partner ≡ y))
+      onward : {x : ℕ} (y : ℕ) → (way.end ≡ x) ⊎ (mem x s.past ≡ true) → 0 < w x y
+          → (mem y (way.end ∷ s.past) ≡ true) ⊎ ((other.end ≡ y) ⊎ (t.end ≡ y))
       onward y (inl q) l =
-          ⊎_map (λ i. subst (λ x. mem x (at ∷ t.past) ≡ true) i (mem_on last at t.past p.here)) inr
-          (next_only two (joins_turned t.here.joins) n y (rw q l))
+          ⊎_map (λ i. subst (λ x. mem x (way.end ∷ s.past) ≡ true) i (mem_on way.last way.end s.past p.here)) inr
+          (next_only two (joins_turned s.here.joins) o.next y (rw q l))
       onward {x} y (inr m) l = beyond (p.onward x y m l)
         where
-          beyond : (mem y t.past ≡ true) ⊎ ((at ≡ y) ⊎ (next_at ≡ y))
-              → (mem y (at ∷ t.past) ≡ true) ⊎ ((next_at ≡ y) ⊎ (s.partner ≡ y))
-          beyond (inl i) = inl (mem_on y at t.past i)
-          beyond (inr (inl i)) = inl (mem_head y at t.past i)
+          beyond : (mem y s.past ≡ true) ⊎ ((way.end ≡ y) ⊎ (other.end ≡ y))
+              → (mem y (way.end ∷ s.past) ≡ true) ⊎ ((other.end ≡ y) ⊎ (t.end ≡ y))
+          beyond (inl i) = inl (mem_on y way.end s.past i)
+          beyond (inr (inl i)) = inl (mem_head y way.end s.past i)
           beyond (inr (inr i)) = inr (inl i)

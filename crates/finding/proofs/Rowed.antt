@@ -1,14 +1,11 @@
 -- What the search for a row by two walks answers: nothing (`none_by`), a ring (`ring_by`), a chain (`chain_by`).
 use mathlib.Core.Path.{◌≡◌, refl, sym, subst, ◌∙◌}
 use mathlib.Core.Logic.{◌≢◌}
-use mathlib.Core.Bool.{Bool, true, false, cond}
-use mathlib.Core.List.{List, []}
+use mathlib.Core.Bool.{Bool, true, false}
+use mathlib.Core.List.{List}
 use mathlib.Core.Option.{some, none}
+use Rattle.std.specs.Prelude.{Some, None}
 use Prim.Native.Nat.{ℕ, ◌<◌}
-use native.Mathlib.Omega.{arith}
-use lib.Dec.{eqb}
-use borrow.Author.Tests.{ne_eqb}
-use Rattle.matching.proofs.Tests.{Test, pass, fail, eq_test}
 use Rattle.matching.specs.Pairs.{Points}
 use Rattle.matching.specs.Graph.{Graph, degree}
 use Rattle.matching.specs.Steps.{Rule, by_leaf, by_ring, by_chain, ring, chain}
@@ -17,40 +14,21 @@ use Rattle.slots.specs.Slots.{Holds, graph_of, Joins}
 use Rattle.slots.proofs.Graphs.{holds_graph}
 use Rattle.slots.proofs.Holding.{joins_pair}
 use Rattle.slots.proofs.Scanning.{joins_turned}
+use Rattle.cellfile.specs.Kinds.{as_rule}
+use Rattle.cellfile.specs.declared.format.Rule as rules
+use Rattle.cellfile.specs.declared.format.Rule.TheVariants.{Leaf, Ring, Chain}
 use Rattle.finding.specs.Walks.{stretch_at, Stops}
-use Rattle.finding.specs.Finding.{told, named_degree, Tells, RingTest, ChainTest, StepBy, FindsBy}
-use Rattle.cellfile.specs.Files.{rule_named}
+use Rattle.finding.specs.Finding.{Tells, RingTest, ChainTest, StepBy, FindsBy}
 use Rattle.finding.specs.declared.Stop.{Stop}
-use Rattle.finding.specs.declared.Found.{Found}
-use Rattle.finding.specs.declared.Step.TheVariants.{Ring, Chain}
+use Rattle.finding.specs.declared.Step.TheVariants as found
 use Rattle.finding.proofs.Ways.{out_of, end_of, nearest_end, back_of, ring_shown, chain_shown, back_starts, ring_none}
 use Rattle.finding.proofs.Ways.{chain_none}
 
--- The rule by its number.
-pub rule_leaf : {rule : ℕ} → rule ≡ 1 → rule_named rule ≡ by_leaf
-rule_leaf e = rw e refl
-
-pub rule_ring : {rule : ℕ} → rule ≡ 2 → rule_named rule ≡ by_ring
-rule_ring e = rw e refl
-
-pub rule_chain : {rule : ℕ} → rule ≢ 1 → rule ≢ 2 → rule_named rule ≡ by_chain
-rule_chain {rule} d n = rw (ne_eqb rule 1 d, ne_eqb rule 2 n)
-
-pub rule_row : {rule : ℕ} → rule ≢ 1 → rule_named rule ≢ by_leaf
-rule_row {rule} d = go (eq_test rule 1) (eq_test rule 2)
-  where
-    go : {s t : Bool} → Test (rule ≡ 1) (rule ≢ 1) s → Test (rule ≡ 2) (rule ≢ 2) t
-        → cond s by_leaf (cond t by_ring by_chain) ≢ by_leaf
-    go (pass e) y = absurd (d e)
-    go (fail n) (pass e) = λ q. (let x : ◌≡◌ {A = ℕ} 0 1 = cc in omega arith)
-    go (fail n) (fail m) = λ q. (let x : ◌≡◌ {A = ℕ} 0 1 = cc in omega arith)
-
-pub row_degree : {rule : ℕ} → rule ≢ 1 → named_degree (rule_named rule) ≡ 2
-row_degree {rule} d = rw (ne_eqb rule 1 d) (go (eqb rule 2))
-  where
-    go : (t : Bool) → named_degree (cond t by_ring by_chain) ≡ 2
-    go true = refl
-    go false = refl
+-- A rule that is neither a leaf's nor a ring's is a chain's.
+pub chain_left : (r : rules.Rule) → as_rule r ≢ by_leaf → r ≢ Ring → as_rule r ≡ by_chain
+chain_left Leaf d n = absurd (d refl)
+chain_left Ring d n = absurd (n refl)
+chain_left Chain d n = refl
 
 -- What a test tells.
 pub tells_yes : (P : Type 0) {t : Bool} → Tells P t → t ≡ true → P
@@ -60,9 +38,9 @@ pub tells_no : (P : Type 0) {t : Bool} → Tells P t → t ≡ false → P → �
 tells_no P {t} p e = subst (Tells P) e p
 
 -- Nothing is found.
-pub none_by : {e : ℕ} {w1 : List ℕ} {r : Rule} {c f : ℕ} {x : Found} → StepBy (graph_of e w1) r c f none
-    → told x.step ≡ (0, []) → FindsBy e w1 r c f x
-none_by miss q = record { found = none; is = miss; finds = record { step = q; way = tt } }
+pub none_by : {e : ℕ} {w1 : List ℕ} {r : Rule} {c f : ℕ} → StepBy (graph_of e w1) r c f none
+    → FindsBy e w1 r c f None
+none_by miss = record { found = none; is = miss; finds = refl }
 
 module _ {e : ℕ} {w1 w2 : List ℕ} (h : Holds e w1 w2) {z f i : ℕ} (j : Joins e w1 i z f)
     (two : degree 1024 (graph_of e w1) z ≡ 2) {a : Stop} (sa : Stops e w1 z (out_of (graph_of e w1) z f) a) where
@@ -92,7 +70,7 @@ module _ {e : ℕ} {w1 w2 : List ℕ} (h : Holds e w1 w2) {z f i : ℕ} (j : Joi
     chain_missed miss = chain_none w z f (λ n t. miss (rw (sb.last, sb.end, sa.end, sa.last) t))
 
     pub ring_by : RingTest w z a.end a.last b.last b.end
-        → FindsBy e w1 by_ring z f (record { step = Ring a.end z; first = a.last; slot = a.slot })
+        → FindsBy e w1 by_ring z f (Some (record { step = found.Ring a.end z; first = a.last; slot = a.slot }))
     ring_by t =
         let u : RingTest w z (end_of w z f) (nearest_end w z f) (last (end_of w z f) (back_of w z f).0)
         (back_of w z f).1 =
@@ -110,7 +88,7 @@ module _ {e : ℕ} {w1 w2 : List ℕ} (h : Holds e w1 w2) {z f i : ℕ} (j : Joi
         }
 
     pub chain_by : ChainTest w a.end a.last b.last b.end
-        → FindsBy e w1 by_chain z f (record { step = Chain a.end b.end z; first = a.last; slot = a.slot })
+        → FindsBy e w1 by_chain z f (Some (record { step = found.Chain a.end b.end z; first = a.last; slot = a.slot }))
     chain_by t =
         let u : ChainTest w (end_of w z f) (nearest_end w z f) (last (end_of w z f) (back_of w z f).0)
         (back_of w z f).1 =

@@ -1,15 +1,15 @@
--- The scan over cells and their slots for the first step of a rule. In order: what a slot shows (`slot_gone`,
--- `slot_leaf`, `slot_row`); the slots of a cell (`unmet_none`, `unmet_off`, `unmet_start`, `unmet_on`, `unmet_gone`,
--- `unmet_end`); the cells (`Barren`, `scan_none`, `scan_some`); a scan that leaves out cells below a bound
--- (`from_bound`, `from_low`); the first step of all rules (`first_leaf`, `first_ring`, `first_chain`).
+-- The scan over cells and their slots for the first step of a rule. In order: what a slot shows (`slot_leaf`); the
+-- slots of a cell (`unmet_on`, `unmet_end`); the cells (`Barren`, `scan_none`, `scan_some`); a scan that leaves out
+-- cells below a bound (`from_bound`, `from_low`); the first step of all rules (`first_leaf`, `first_ring`,
+-- `first_chain`).
 use mathlib.Core.Path.{◌≡◌, refl, sym, ap, ap₂, subst, ◌∙◌, fun_ext}
 use mathlib.Core.Logic.{inl, inr, ◌≢◌}
 use mathlib.Core.Bool.{Bool}
-use mathlib.Core.List.{List, []}
+use mathlib.Core.List.{List}
 use mathlib.Core.Option.{Option, some, none}
+use Rattle.std.specs.Prelude.{Option as Perhaps, Some, None}
 use Prim.Native.Nat.{ℕ, suc, ◌+◌, ◌-◌, ◌≤◌, ◌<◌}
 use native.Mathlib.Omega.{arith}
-use lib.ListN.{get_or}
 use Rattle.matching.specs.Graph.{Graph, degree}
 use Rattle.matching.specs.Steps.{Rule, by_leaf, by_ring, by_chain, Step, leaf, ring, chain}
 use Rattle.matching.specs.Shapes.{IsStep}
@@ -27,7 +27,7 @@ use Rattle.slots.specs.Found.{LastSlot}
 use Rattle.slots.proofs.Graphs.{holds_graph}
 use Rattle.slots.proofs.Holding.{joins_pair, joins_one}
 use Rattle.slots.proofs.Scanning.{joins_turned, joins_some, joins_has, slots_on}
-use Rattle.finding.specs.Finding.{told, to_tell, Finds, named_degree, step_from, Unnamed, StepBy, StepAtSlot, FindsBy}
+use Rattle.finding.specs.Finding.{told, to_tell, Finds, MayFind, named_degree, step_from, Unnamed, StepAtSlot}
 use Rattle.finding.specs.Finding.{FindsAt, Unmet, Quiet}
 use Rattle.finding.specs.declared.Found.{Found}
 use Rattle.finding.specs.declared.Step as declared
@@ -36,35 +36,18 @@ use Rattle.finding.proofs.Ways.{step_met}
 
 -- ---- what the enum tells
 
-pub told_none : {s : declared.Step} → s ≡ found.None → told s ≡ (0, [])
-told_none e = rw e refl
-
-pub tell_none : (o : Option Step) → to_tell o ≡ (0, []) → o ≡ none
-tell_none none e = refl
-tell_none (some (leaf u v)) e = absurd (omega (arith, ap (λ (x : Answer). x.0) e))
-tell_none (some (ring u z inner)) e = absurd (omega (arith, ap (λ (x : Answer). x.0) e))
-tell_none (some (chain u v z inner)) e = absurd (omega (arith, ap (λ (x : Answer). x.0) e))
-
--- one of the first three cases is a step
-pub told_some : (s : declared.Step) → s ≢ found.None → (o : Option Step)
-    → told s ≡ to_tell o → (t : Step) × (o ≡ some t)
-told_some s k (some t) e = (t, refl)
-told_some found.None k none e = absurd (k refl)
-told_some (found.Leaf v u) k none e = absurd (omega (arith, ap (λ (x : Answer). x.0) e))
-told_some (found.Ring u z) k none e = absurd (omega (arith, ap (λ (x : Answer). x.0) e))
-told_some (found.Chain u v z) k none e = absurd (omega (arith, ap (λ (x : Answer). x.0) e))
+-- what is told of a step is one
+pub told_some : (s : declared.Step) (o : Option Step) → told s ≡ to_tell o → (t : Step) × (o ≡ some t)
+told_some s (some t) e = (t, refl)
+told_some (found.Leaf v u) none e = absurd (omega (arith, ap (λ (x : Answer). x.0) e))
+told_some (found.Ring u z) none e = absurd (omega (arith, ap (λ (x : Answer). x.0) e))
+told_some (found.Chain u v z) none e = absurd (omega (arith, ap (λ (x : Answer). x.0) e))
 
 module _ {e : ℕ} {w1 w2 : List ℕ} (h : Holds e w1 w2) where
   -- ---- what a slot shows
 
-  none_gone : (r : Rule) {c i : ℕ} → get_or w1 i 0 ≡ 0 → StepAtSlot e w1 r c i none
-  none_gone r z = λ f j. absurd (omega (arith, j.live))
-
-  pub slot_gone : {r : Rule} {c i : ℕ} {x : Found} → get_or w1 i 0 ≡ 0 → told x.step ≡ (0, []) → FindsAt e w1 r c i x
-  slot_gone {r} z q = record { found = none; is = none_gone r z; finds = record { step = q; way = tt } }
-
   pub slot_leaf : {c f i : ℕ} → Joins e w1 i c f → degree 1024 (graph_of e w1) c ≡ 1
-      → FindsAt e w1 by_leaf c i (record { step = found.Leaf c f; first = f; slot = i })
+      → FindsAt e w1 by_leaf c i (Some (record { step = found.Leaf c f; first = f; slot = i }))
   slot_leaf {c} {f} j one = record {
     found = some (leaf f c);
     is = (refl, record { one = one; pair = joins_pair h j });
@@ -79,22 +62,9 @@ module _ {e : ℕ} {w1 w2 : List ℕ} (h : Holds e w1 w2) where
       go (inl q) = sym q.1
       go (inr q) = absurd (pair_apart (holds_graph h) c f (joins_pair h j) q.0)
 
-  pub slot_row : {r : Rule} {c f i : ℕ} {x : Found} → Joins e w1 i c f → FindsBy e w1 r c f x → FindsAt e w1 r c i x
-  slot_row {r} {c} {f} {i} {x} j b = go b.found b.is b.finds
-    where
-      go : (o : Option Step) → StepBy (graph_of e w1) r c f o → Finds e w1 o x → FindsAt e w1 r c i x
-      go none is finds = record {
-        found = none;
-        is = λ f' k s p m. is s p (rw (joins_same j k) m);
-        finds = finds;
-      }
-      go (some s) is finds = record { found = some s; is = is; finds = finds }
-
-  -- where nothing is told, none is met
-  pub none_at_slot : {r : Rule} {c i : ℕ} {x : Found} → FindsAt e w1 r c i x → x.step ≡ found.None
-      → StepAtSlot e w1 r c i none
-  none_at_slot {r} {c} {i} {x} a q =
-      subst (StepAtSlot e w1 r c i) (tell_none a.found (sym a.finds.step ∙ told_none q)) a.is
+  -- where nothing is found, none is met
+  pub none_at_slot : {r : Rule} {c i : ℕ} → FindsAt e w1 r c i None → StepAtSlot e w1 r c i none
+  none_at_slot {r} {c} {i} a = subst (StepAtSlot e w1 r c i) a.finds a.is
 
   -- ---- the slots of a cell
 
@@ -110,27 +80,6 @@ module _ {e : ℕ} {w1 w2 : List ℕ} (h : Holds e w1 w2) where
   step_degree by_ring c (ring u z inner) p = rw (← p.0) (p.1.row.two z p.1.low.here)
   step_degree by_chain c (chain u v z inner) p = rw (← p.0) (p.1.row.two z p.1.low.here)
 
-  -- no step is named by c, as where it has another degree
-  pub unmet_none : {r : Rule} {c : ℕ} → Unnamed (graph_of e w1) r c → Unmet e w1 r c 0
-  unmet_none n = record {
-    top = omega arith;
-    has = λ k q. absurd (omega arith);
-    fits = λ k q. absurd (omega arith);
-    past = λ j l f k s p m. n s p;
-  }
-
-  pub unmet_off : {r : Rule} {c : ℕ} → degree 1024 (graph_of e w1) c ≢ named_degree r → Unmet e w1 r c 0
-  unmet_off {r} {c} d = unmet_none (λ s p. d (step_degree r c s p))
-
-  pub unmet_start : {r : Rule} {c i : ℕ} → degree 1024 (graph_of e w1) c ≡ named_degree r → LastSlot w1 c e i
-      → Unmet e w1 r c i
-  unmet_start {r} {c} {i} d l = record {
-    top = l.low;
-    has = l.at;
-    fits = λ k q. d;
-    past = λ j a f k s p m. clash (joins_has k) (l.past j a k.below);
-  }
-
   module _ {r : Rule} {c k : ℕ} (n : Unmet e w1 r c (suc k)) where
     -- slot k shows none either
     pub unmet_on : StepAtSlot e w1 r c k none → {i : ℕ} → LastSlot w1 c k i → Unmet e w1 r c i
@@ -141,9 +90,6 @@ module _ {e : ℕ} {w1 w2 : List ℕ} (h : Holds e w1 w2) where
       past = slots_on l (λ j. StepAtSlot e w1 r c j none) (λ j o f m s p y. clash (joins_has m) o) miss
           (λ j a. n.past j (omega arith));
     }
-
-    pub unmet_gone : get_or w1 k 0 ≡ 0 → {i : ℕ} → LastSlot w1 c k i → Unmet e w1 r c i
-    unmet_gone z = unmet_on (none_gone r z)
 
   -- no slot is left
   pub unmet_end : {r : Rule} {c : ℕ} → Unmet e w1 r c 0 → (s : Step) → IsStep 1024 (graph_of e w1) r c s → ⊥
@@ -160,9 +106,6 @@ pub record Barren (e : ℕ) (w1 : List ℕ) (r : Rule) (from c : ℕ) : Type 0 w
   pub none_at : (x : ℕ) → from ≤ x → x < c → (s : Step) → IsStep 1024 (graph_of e w1) r x s → ⊥
 
 module _ {e : ℕ} {w1 : List ℕ} {r : Rule} {from : ℕ} where
-  pub barren_start : Barren e w1 r from from
-  barren_start = record { low = omega arith; none_at = λ x a b s p. absurd (omega arith) }
-
   pub barren_on : {c : ℕ} → Barren e w1 r from c → ((s : Step) → IsStep 1024 (graph_of e w1) r c s → ⊥)
       → Barren e w1 r from (c + 1)
   barren_on {c} b n = record { low = omega (arith, b.low); none_at = λ x a l. at x a l (eq_test x c) }
@@ -176,21 +119,17 @@ module _ {e : ℕ} {w1 w2 : List ℕ} (h : Holds e w1 w2) {r : Rule} {from c : �
   barren_none : (j : ℕ) → from + j < c → step_at 1024 (graph_of e w1) r (from + j) ≡ none
   barren_none j l = (step_none (holds_graph h) r (from + j)).1 (b.none_at (from + j) (omega arith) l)
 
-  pub scan_none : {to : ℕ} {x : Found} → to ≤ c → told x.step ≡ (0, [])
-      → Finds e w1 (step_from (graph_of e w1) r from to) x
-  scan_none {to} {x} l q =
-      subst (λ (o : Option Step). Finds e w1 o x)
-      (sym (search_nothing (λ i. step_at 1024 (graph_of e w1) r (from + i)) (to - from)
-      (λ j k. barren_none j (omega arith))))
-      (record { step = q; way = tt })
+  pub scan_none : {to : ℕ} → to ≤ c → MayFind e w1 (step_from (graph_of e w1) r from to) None
+  scan_none {to} l =
+      search_nothing (λ i. step_at 1024 (graph_of e w1) r (from + i)) (to - from) (λ j k. barren_none j (omega arith))
 
-  pub scan_some : {to : ℕ} {x : Found} {i : ℕ} → c < to → FindsAt e w1 r c i x
-      → x.step ≢ found.None → Finds e w1 (step_from (graph_of e w1) r from to) x
-  scan_some {to} {x} {i} l at k = go at.found at.is at.finds
+  pub scan_some : {to : ℕ} {x : Found} {i : ℕ} → c < to → FindsAt e w1 r c i (Some x)
+      → Finds e w1 (step_from (graph_of e w1) r from to) x
+  scan_some {to} {x} {i} l at = go at.found at.is at.finds
     where
       go : (o : Option Step) → StepAtSlot e w1 r c i o → Finds e w1 o x
           → Finds e w1 (step_from (graph_of e w1) r from to) x
-      go none is finds = absurd (clash_none (told_some x.step k none finds.step))
+      go none is finds = absurd (clash_none (told_some x.step none finds.step))
         where
           clash_none : (t : Step) × (◌≡◌ {A = Option Step} none (some t)) → ⊥
           clash_none (t, q) = (let y : ◌≡◌ {A = ℕ} 0 1 = cc in omega arith)
@@ -231,17 +170,17 @@ search_from at low n nil = go (search later (n - low)) (searched later (n - low)
 
 -- below `low` no step of the rule is named
 pub from_bound : {e : ℕ} {w1 w2 : List ℕ} → Holds e w1 w2 → (r : Rule) (low n : ℕ)
-    → ((c : ℕ) → c < low → Unnamed (graph_of e w1) r c) → {x : Found}
-    → Finds e w1 (step_from (graph_of e w1) r low n) x → Finds e w1 (step_from (graph_of e w1) r 0 n) x
-from_bound {e} {w1} h r low n q {x} =
-    subst (λ (o : Option Step). Finds e w1 o x)
+    → ((c : ℕ) → c < low → Unnamed (graph_of e w1) r c) → (x : Perhaps Found)
+    → MayFind e w1 (step_from (graph_of e w1) r low n) x → MayFind e w1 (step_from (graph_of e w1) r 0 n) x
+from_bound {e} {w1} h r low n q x =
+    subst (λ (o : Option Step). MayFind e w1 o x)
     (search_from (step_at 1024 (graph_of e w1) r) low n (λ j l. (step_none (holds_graph h) r j).1 (q j l))
     ∙ sym (from_zero e w1 r n))
 
 -- below `low` no cell is a leaf
-pub from_low : {e : ℕ} {w1 w2 : List ℕ} → Holds e w1 w2 → (low n : ℕ) → Quiet low (graph_of e w1) → {x : Found}
-    → Finds e w1 (step_from (graph_of e w1) by_leaf low n) x → Finds e w1 (step_from (graph_of e w1) by_leaf 0 n) x
-from_low h low n q = from_bound h by_leaf low n (λ c l s p. q c l (step_degree h by_leaf c s p))
+pub from_low : {e : ℕ} {w1 w2 : List ℕ} → Holds e w1 w2 → (low n : ℕ) → Quiet low (graph_of e w1) → (x : Perhaps Found)
+    → MayFind e w1 (step_from (graph_of e w1) by_leaf low n) x → MayFind e w1 (step_from (graph_of e w1) by_leaf 0 n) x
+from_low h low n q x = from_bound h by_leaf low n (λ c l s p. q c l (step_degree h by_leaf c s p)) x
 
 -- the three searches in their order
 in_order : (e : ℕ) (w1 : List ℕ) (n : ℕ) → Graph n (graph_of e w1) → n ≤ 1024 → first_step_of n (graph_of e w1)
@@ -252,37 +191,31 @@ in_order e w1 n g le =
     ∙ rw (from_zero e w1 by_leaf n, from_zero e w1 by_ring n, from_zero e w1 by_chain n)
 
 first_of : {e : ℕ} {w1 : List ℕ} {o : Option Step} (p : Option Step) {x : Found} → Finds e w1 o x
-    → x.step ≢ found.None → Finds e w1 (or_else o p) x
-first_of {e} {w1} {o} p {x} f k =
-    let t = told_some x.step k o f.step in
+    → Finds e w1 (or_else o p) x
+first_of {e} {w1} {o} p {x} f =
+    let t = told_some x.step o f.step in
     subst (λ (y : Option Step). Finds e w1 y x) (t.1 ∙ ap (λ (y : Option Step). or_else y p) (sym t.1)) f
 
-skipped : {e : ℕ} {w1 : List ℕ} {o : Option Step} {x : Found} → Finds e w1 o x → x.step ≡ found.None → o ≡ none
-skipped {o = o} f q = tell_none o (sym f.step ∙ told_none q)
+module _ (e : ℕ) (w1 : List ℕ) (n : ℕ) (g : Graph n (graph_of e w1)) (le : n ≤ 1024) where
+  pub first_leaf : {x : Found} → Finds e w1 (step_from (graph_of e w1) by_leaf 0 n) x
+      → Finds e w1 (first_step_of n (graph_of e w1)) x
+  first_leaf {x} a = subst (λ (o : Option Step). Finds e w1 o x) (sym (in_order e w1 n g le)) (first_of _ a)
 
-module _ (e : ℕ) (w1 : List ℕ) (n : ℕ) (g : Graph n (graph_of e w1)) (le : n ≤ 1024) {x : Found}
-    (a : Finds e w1 (step_from (graph_of e w1) by_leaf 0 n) x) where
-  pub first_leaf : x.step ≢ found.None → Finds e w1 (first_step_of n (graph_of e w1)) x
-  first_leaf k = subst (λ (o : Option Step). Finds e w1 o x) (sym (in_order e w1 n g le)) (first_of _ a k)
-
-  module _ (no_leaf : x.step ≡ found.None) {y : Found}
-      (b : Finds e w1 (step_from (graph_of e w1) by_ring 0 n) y) where
+  module _ (no_leaf : step_from (graph_of e w1) by_leaf 0 n ≡ none) where
     abbrev chains : Option Step
     chains = step_from (graph_of e w1) by_chain 0 n
 
-    rest : first_step_of n (graph_of e w1)
-        ≡ or_else (step_from (graph_of e w1) by_ring 0 n) (step_from (graph_of e w1) by_chain 0 n)
+    rest : first_step_of n (graph_of e w1) ≡ or_else (step_from (graph_of e w1) by_ring 0 n) chains
     rest =
         in_order e w1 n g le
-        ∙ ap (λ (o : Option Step). or_else o (or_else (step_from (graph_of e w1) by_ring 0 n) chains))
-        (skipped a no_leaf)
+        ∙ ap (λ (o : Option Step). or_else o (or_else (step_from (graph_of e w1) by_ring 0 n) chains)) no_leaf
 
-    pub first_ring : y.step ≢ found.None
+    pub first_ring : {y : Found} → Finds e w1 (step_from (graph_of e w1) by_ring 0 n) y
         → Finds e w1 (first_step_of n (graph_of e w1)) y
-    first_ring k = subst (λ (o : Option Step). Finds e w1 o y) (sym rest) (first_of _ b k)
+    first_ring {y} b = subst (λ (o : Option Step). Finds e w1 o y) (sym rest) (first_of _ b)
 
-    pub first_chain : y.step ≡ found.None → {z : Found} → Finds e w1 (step_from (graph_of e w1) by_chain 0 n) z
-        → Finds e w1 (first_step_of n (graph_of e w1)) z
-    first_chain no-ring {z} c =
-        subst (λ (o : Option Step). Finds e w1 o z)
-        (sym (rest ∙ ap (λ (o : Option Step). or_else o chains) (skipped b no-ring))) c
+    pub first_chain : step_from (graph_of e w1) by_ring 0 n ≡ none → (z : Perhaps Found)
+        → MayFind e w1 (step_from (graph_of e w1) by_chain 0 n) z → MayFind e w1 (first_step_of n (graph_of e w1)) z
+    first_chain no_ring z c =
+        subst (λ (o : Option Step). MayFind e w1 o z)
+        (sym (rest ∙ ap (λ (o : Option Step). or_else o chains) no_ring)) c

@@ -20,9 +20,8 @@ use Rattle.matching.proofs.Members.{no_mem, mem_on, mem_head, mem_more}
 use Rattle.matching.proofs.Partners.{partners_two}
 use Rattle.matching.proofs.Rows.{Run, onward_between}
 use Rattle.slots.specs.Slots.{graph_of, Joins}
-use Rattle.slots.specs.Found.{Next}
-use Rattle.slots.specs.declared.read.Other.{Other}
-use Rattle.finding.specs.Walks.{stretch, stretch_at, Stops}
+use Rattle.finding.specs.Walks.{stretch, stretch_at, Onward, Stops}
+use Rattle.finding.specs.declared.Stop.{Stop}
 
 -- A walk from `from` at the cell `at`.
 pub record Walked (n : ℕ) (w : Points) (low from at : ℕ) (r : ReadRow) : Type 0 where
@@ -118,57 +117,51 @@ module _ {n : ℕ} {w : Points} (g : Graph n w) (low : ℕ) where
 
 -- ---- the loop of a walk
 
--- The rest of the walk from `last` at `end`, with the fuel that is left, ends the whole walk.
-pub record Walking (e : ℕ) (w1 : List ℕ) (low from at last' end slot left : ℕ) : Type 0 where
-  pub ends : (stretch_at (graph_of e w1) low from at).1
-      ≡ (stretch left (partners 1024 (graph_of e w1)) low last' end).1
-  pub lasts : last from (stretch_at (graph_of e w1) low from at).0
-      ≡ last last' (stretch left (partners 1024 (graph_of e w1)) low last' end).0
-  pub joins : Joins e w1 slot last' end
-  pub below : end < 1024
+-- The rest of the walk from s on, with the fuel that is left, ends the whole walk from a.
+pub record Walking (e : ℕ) (w1 : List ℕ) (low : ℕ) (a s : Stop) (left : ℕ) : Type 0 where
+  pub ends : (stretch_at (graph_of e w1) low a.last a.end).1
+      ≡ (stretch left (partners 1024 (graph_of e w1)) low s.last s.end).1
+  pub lasts : last a.last (stretch_at (graph_of e w1) low a.last a.end).0
+      ≡ last s.last (stretch left (partners 1024 (graph_of e w1)) low s.last s.end).0
+  pub joins : Joins e w1 s.slot s.last s.end
+  pub below : s.end < 1024
 
-pub walk_start : {e : ℕ} {w1 : List ℕ} {low from at i : ℕ} → Joins e w1 i from at → at < 1024
-    → Walking e w1 low from at from at i 1024
-walk_start j l = record { ends = refl; lasts = refl; joins = j; below = l }
-
-module _ {e : ℕ} {w1 : List ℕ} {low from at last' end slot left : ℕ}
-    (h : Walking e w1 low from at last' end slot left) where
+module _ {e : ℕ} {w1 : List ℕ} {low left : ℕ} {a s : Stop} (h : Walking e w1 low a s left) where
   abbrev pub ps : ℕ → List ℕ
   ps = partners 1024 (graph_of e w1)
 
   -- the walk stops here
-  pub walk_stops : stretch left ps low last' end ≡ ([], end)
-      → Stops e w1 from (stretch_at (graph_of e w1) low from at) (record { end = end; last = last'; slot = slot })
+  pub walk_stops : stretch left ps low s.last s.end ≡ ([], s.end)
+      → Stops e w1 a.last (stretch_at (graph_of e w1) low a.last a.end) s
   walk_stops q = record {
     end = sym (h.ends ∙ ap (λ (r : ReadRow). r.1) q);
-    last = sym (h.lasts ∙ ap (λ (r : ReadRow). last last' r.0) q);
+    last = sym (h.lasts ∙ ap (λ (r : ReadRow). last s.last r.0) q);
     joins = h.joins;
     below = h.below;
   }
 
   -- no fuel is left
-  pub walk_out : left ≡ 0
-      → Stops e w1 from (stretch_at (graph_of e w1) low from at) (record { end = end; last = last'; slot = slot })
+  pub walk_out : left ≡ 0 → Stops e w1 a.last (stretch_at (graph_of e w1) low a.last a.end) s
   unfolding stretch
   walk_out z = walk_stops (rw z refl)
 
   -- it goes on
-  pub walk_on : {left' : ℕ} → left ≡ suc left' → low ≤ end → length (partners 1024 (graph_of e w1) end) ≡ 2
-      → {s : Other} → Next e w1 end last' s → Walking e w1 low from at end s.partner s.slot left'
+  pub walk_on : {left' : ℕ} → left ≡ suc left' → low ≤ s.end → length (partners 1024 (graph_of e w1) s.end) ≡ 2
+      → {t : Stop} → Onward e w1 s t → Walking e w1 low a t left'
   unfolding stretch
-  walk_on {left'} z on two {s} n = go (ps end) refl
+  walk_on {left'} z on two {t} o = go (ps s.end) refl
     where
-      go : (xs : List ℕ) → ps end ≡ xs → Walking e w1 low from at end s.partner s.slot left'
+      go : (xs : List ℕ) → ps s.end ≡ xs → Walking e w1 low a t left'
       go [] q = absurd (omega (arith, ap length q))
-      go (a ∷ []) q = absurd (omega (arith, ap length q))
-      go (a ∷ b ∷ []) q =
-          let here : stretch left ps low last' end
-          ≡ (end ∷ (stretch left' ps low end s.partner).0, (stretch left' ps low end s.partner).1) =
-          rw (z, q, fails (lt_test end low) (λ l. omega arith), n.partner a b q) in
+      go (c ∷ []) q = absurd (omega (arith, ap length q))
+      go (c ∷ d ∷ []) q =
+          let here : stretch left ps low s.last s.end
+          ≡ (s.end ∷ (stretch left' ps low s.end t.end).0, (stretch left' ps low s.end t.end).1) =
+          rw (z, q, fails (lt_test s.end low) (λ l. omega arith), o.next.partner c d q) in
           record {
-            ends = h.ends ∙ ap (λ (r : ReadRow). r.1) here;
-            lasts = h.lasts ∙ ap (λ (r : ReadRow). last last' r.0) here;
-            joins = n.joins;
-            below = n.below;
+            ends = rw o.last (h.ends ∙ ap (λ (r : ReadRow). r.1) here);
+            lasts = rw o.last (h.lasts ∙ ap (λ (r : ReadRow). last s.last r.0) here);
+            joins = rw o.last o.next.joins;
+            below = o.next.below;
           }
-      go (a ∷ b ∷ c ∷ xs) q = absurd (omega (arith, ap length q))
+      go (c ∷ d ∷ x ∷ xs) q = absurd (omega (arith, ap length q))

@@ -3,12 +3,11 @@
 -- `chain_none`).
 use mathlib.Core.Path.{◌≡◌, refl, sym, ap, ap₂, ◌∙◌, subst}
 use mathlib.Core.Logic.{◌⊎◌, inl, inr, ◌≢◌, ⊎_map}
-use mathlib.Core.Bool.{Bool, true, false, not}
+use mathlib.Core.Bool.{true, false}
 use mathlib.Core.List.{List, [], ◌∷◌}
 use mathlib.Core.Option.{none}
 use Prim.Native.Nat.{ℕ, suc, ◌≤◌, ◌<◌}
 use native.Mathlib.Omega.{arith}
-use lib.Dec.{eqb}
 use lib.ListN.{length}
 use Rattle.matching.specs.Lists.{mem, distinct}
 use Rattle.matching.specs.Pairs.{Points}
@@ -16,13 +15,13 @@ use Rattle.matching.specs.Graph.{Graph, degree}
 use Rattle.matching.specs.Steps.{Rule, by_leaf, by_ring, by_chain, Step, leaf, ring, chain}
 use Rattle.matching.specs.Shapes.{IsRow, Lowest, IsRing, IsChain, IsStep, first, last}
 use Rattle.matching.specs.Find.{ReadRow}
-use Rattle.matching.proofs.Tests.{Test, pass, fail, is_test, eq_test, fails}
+use Rattle.matching.proofs.Tests.{is_test, fails}
 use Rattle.matching.proofs.Members.{no_mem, mem_on, mem_head, mem_apart, mem_more, distinct_cons}
 use Rattle.matching.proofs.Upto.{distinct_length}
 use Rattle.matching.proofs.Put.{pair_below}
 use Rattle.matching.proofs.Rows.{is_run, row_is, run_two, run_distinct, two_below, inner_below}
 use Rattle.finding.specs.Walks.{stretch_at}
-use Rattle.finding.specs.Finding.{Tells, RingTest, ChainTest, Met, MetBy, StepBy}
+use Rattle.finding.specs.Finding.{RingTest, ChainTest, Met, MetBy, StepBy}
 use Rattle.finding.proofs.Walks.{Bars, Walked, stretch_read, run_stretch, stretch_through}
 use Rattle.finding.proofs.Turned.{turn, turn_length, turn_first, turn_mem, turn_run, Back, back}
 
@@ -244,24 +243,3 @@ chain_none w z f miss (chain u v z' inner) p m = go u v inner (rw p.0 at p.1) (r
         ends_apart (c ∷ b ∷ cs) d l q =
             mem_apart c c (b ∷ cs) (subst (λ x. mem x (b ∷ cs) ≡ true) (sym q) (last_in b cs))
             (distinct_cons c (b ∷ cs) d).0 refl
-
--- ---- the tests in the code
-
-not_two_tells : {P : Type 0} {x d : ℕ} → x ≡ d → (d ≢ 2 → P) → (P → d ≢ 2) → Tells P (not (eqb x 2))
-not_two_tells {P} {x} {d} q to from = go (eq_test x 2)
-  where
-    go : {t : Bool} → Test (x ≡ 2) (x ≢ 2) t → Tells P (not t)
-    go (pass e) = λ p. from p (sym q ∙ e)
-    go (fail n) = to (λ e. n (q ∙ e))
-
-pub ring_tells : (w : Points) (z u p before end : ℕ) {x : ℕ} → end ≡ u → p < before → z ≤ u → x ≡ degree 1024 w u
-    → Tells (RingTest w z u p before end) (not (eqb x 2))
-ring_tells w z u p before end back up l q = not_two_tells q (λ d. (back, up, inr d)) (λ t. go t.2)
-  where
-    go : (u < z) ⊎ (degree 1024 w u ≢ 2) → degree 1024 w u ≢ 2
-    go (inl k) = absurd (omega arith)
-    go (inr d) = d
-
-pub chain_tells : (w : Points) (u p before end : ℕ) {x : ℕ} → u < end → p ≢ before → degree 1024 w u ≢ 2
-    → x ≡ degree 1024 w end → Tells (ChainTest w u p before end) (not (eqb x 2))
-chain_tells w u p before end up apart d q = not_two_tells q (λ k. (up, apart, d, k)) (λ t. t.3)

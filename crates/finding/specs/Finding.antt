@@ -1,6 +1,7 @@
 -- What finding a step promises. The enum `Step` of the source has the cells that the description names; the definition
 -- of a step has its inner cells too.
 use Rattle.std.specs.Prelude.{◌≡◌, ◌⊎◌, ◌≢◌, Bool, true, false, List, [], ◌∷◌, ℕ, suc, ◌+◌, ◌-◌, ◌≤◌, ◌<◌}
+use Rattle.std.specs.Prelude.{Option as Perhaps, Some, None}
 use Rattle.std.proofs.Math.Option.{Option, some, none}
 use Rattle.matching.specs.Pairs.{Points, touches}
 use Rattle.matching.specs.Graph.{degree}
@@ -20,7 +21,11 @@ abbrev pub told : declared.Step → Answer
 told (found.Leaf v u) = (1, v ∷ u ∷ [])
 told (found.Ring u z) = (2, u ∷ z ∷ [])
 told (found.Chain u v z) = (3, u ∷ v ∷ z ∷ [])
-told found.None = (0, [])
+
+-- The same of a step or none.
+abbrev pub told_of : Perhaps declared.Step → Answer
+told_of None = (0, [])
+told_of (Some s) = told s
 
 -- What is to be told of a step.
 abbrev pub to_tell : Option Step → Answer
@@ -36,19 +41,23 @@ Way e w1 (some (leaf u v)) f i = Joins e w1 i u v
 Way e w1 (some (ring u z inner)) f i = (f ≡ first u inner) × Joins e w1 i u f
 Way e w1 (some (chain u v z inner)) f i = (f ≡ first v inner) × Joins e w1 i u f
 
--- This step is found, or none.
+-- This step is found.
 pub record Finds (e : ℕ) (w1 : List ℕ) (o : Option Step) (r : Found) : Type 0 where
   pub step : told r.step ≡ to_tell o
   pub way : Way e w1 o r.first r.slot
 
--- The step that is found, on the graph where it was found: its inner cells are read by walking.
-abbrev pub as_step : declared.Step → (ℕ → List ℕ) → Option Step
-as_step (found.Leaf v u) inner = some (leaf u v)
-as_step (found.Ring u z) inner = some (ring u z (inner u))
-as_step (found.Chain u v z) inner = some (chain u v z (inner u))
-as_step found.None inner = none
+-- This step is found, or there is none.
+abbrev pub MayFind : ℕ → List ℕ → Option Step → Perhaps Found → Type 0
+MayFind e w1 o None = o ≡ none
+MayFind e w1 o (Some r) = Finds e w1 o r
 
-abbrev pub step_of : Points → Found → Option Step
+-- The step that is found, on the graph where it was found: its inner cells are read by walking.
+abbrev pub as_step : declared.Step → (ℕ → List ℕ) → Step
+as_step (found.Leaf v u) inner = leaf u v
+as_step (found.Ring u z) inner = ring u z (inner u)
+as_step (found.Chain u v z) inner = chain u v z (inner u)
+
+abbrev pub step_of : Points → Found → Step
 step_of w x = as_step x.step (λ u. (row_at w u x.first).0)
 
 -- The degree of the cell that a rule's step names.
@@ -96,20 +105,20 @@ abbrev pub StepBy : Points → Rule → ℕ → ℕ → Option Step → Type 0
 StepBy w r c f none = (s : Step) → IsStep 1024 w r c s → MetBy w f s → ⊥
 StepBy w r c f (some s) = IsStep 1024 w r c s
 
-pub record FindsBy (e : ℕ) (w1 : List ℕ) (r : Rule) (c f : ℕ) (x : Found) : Type 0 where
+pub record FindsBy (e : ℕ) (w1 : List ℕ) (r : Rule) (c f : ℕ) (x : Perhaps Found) : Type 0 where
   pub found : Option Step
   pub is : StepBy (graph_of e w1) r c f found
-  pub finds : Finds e w1 found x
+  pub finds : MayFind e w1 found x
 
 -- A step of the rule at c, or none that is met by slot i.
 abbrev pub StepAtSlot : ℕ → List ℕ → Rule → ℕ → ℕ → Option Step → Type 0
 StepAtSlot e w1 r c i none = (f : ℕ) → Joins e w1 i c f → StepBy (graph_of e w1) r c f none
 StepAtSlot e w1 r c i (some s) = IsStep 1024 (graph_of e w1) r c s
 
-pub record FindsAt (e : ℕ) (w1 : List ℕ) (r : Rule) (c i : ℕ) (x : Found) : Type 0 where
+pub record FindsAt (e : ℕ) (w1 : List ℕ) (r : Rule) (c i : ℕ) (x : Perhaps Found) : Type 0 where
   pub found : Option Step
   pub is : StepAtSlot e w1 r c i found
-  pub finds : Finds e w1 found x
+  pub finds : MayFind e w1 found x
 
 -- No step is met by the slots of c from i on; slot i - 1 has c, which has the degree that the rule asks for.
 pub record Unmet (e : ℕ) (w1 : List ℕ) (r : Rule) (c i : ℕ) : Type 0 where

@@ -6,13 +6,18 @@ use mathlib.Core.Path.{◌≡◌, refl, sym, ap, ◌∙◌}
 use mathlib.Core.Logic.{◌⊎◌, inl, inr, ◌≢◌}
 use mathlib.Core.Bool.{Bool, true, false}
 use mathlib.Core.List.{List, [], ◌∷◌}
+use Rattle.std.specs.Prelude.{Option, None, Some}
 use Prim.Native.Nat.{ℕ, zero, suc, ◌+◌, ◌*◌, ◌-◌, ◌/◌, ◌%◌, ◌≤◌, ◌<◌}
 use native.Mathlib.Omega.{arith}
 use native.Mathlib.Numerals.{add-one}
 use lib.ListN.{length, get_or, set, drop, length-set}
+use lib.ListN.{length-replicate}
+use Rattle.std.proofs.lemmas.List.{get_or-take, get_or-drop}
 use lib.Seq.{get_or-set_same, get_or-set_other}
+use borrow.Rule.Slice.PartMut.{mid_of, put_mid, same_len_mid, mid_len, take_put, drop_put}
 use borrow.Author.Tests.{lt-ltb, le-ltb, eq-eqb, ne_eqb}
 use Rattle.buffers.specs.Map.{unit, at_starts, at_points, at_places, at_labels, link_field}
+use Rattle.buffers.specs.Buffers.{zeros}
 use Rattle.matching.specs.Lists.{mem}
 use Rattle.matching.specs.Pairs.{Points}
 use Rattle.matching.specs.Listed.{short_below, short_list}
@@ -21,8 +26,9 @@ use Rattle.matching.proofs.Members.{clash, mem_past}
 use Rattle.matching.proofs.Alls.{all_map, all_mem, all_members}
 use Rattle.matching.proofs.Where.{Rises, all_place, rises_place}
 use Rattle.cellfile.specs.Words.{no_entry, row_word, points_room}
-use Rattle.grouping.specs.Finding.{link_in, Leads}
-use Rattle.gathering.specs.Gathered.{cell_in, points_in, Only, RunEnd, StartsThere, StartsIn, LinksThere, Gathers}
+use Rattle.grouping.specs.Finding.{link_in, named, Leads}
+use Rattle.grouping.proofs.Links.{named_none, named_some}
+use Rattle.gathering.specs.Gathered.{cell_in, points_in, Only, RunEnd, StartsThere, LinksThere, Gathers}
 use Rattle.gathering.specs.Gathered.{points_between, PlacesThere, RowIn, PointsIn}
 use Rattle.gathering.proofs.Runs.{before, run_few, run_skip, run_longer, run_within, run_met, run_missed}
 use Rattle.gathering.proofs.Runs.{run_ends}
@@ -61,10 +67,6 @@ pub record StartsTo (n : ℕ) (w : Points) (a i : ℕ) (w2 w2' : List ℕ) : Typ
   pub starts : (b : ℕ) → b < a → get_or w2' (at_starts + b) 0 ≡ length (short_below n w b)
   pub only : Only at_starts at_points w2 w2'
 
-pub starts_none : (n : ℕ) (w : Points) (w2 : List ℕ) → StartsTo n w 0 0 w2 w2
-starts_none n w w2 =
-    record { at = refl; starts = λ b l. absurd (omega arith); only = only_none at_starts at_points w2 }
-
 module _ {n : ℕ} {w : Points} {r a i : ℕ} {w1 w2 w2' : List ℕ} (h : StartsThere n w r w1 w2)
     (g : StartsTo n w a i w2 w2') where
   pub starts_more : {j : ℕ} → a < n → RunEnd i r a w1 j → StartsTo n w (a + 1) j w2 (set w2' (at_starts + a) i)
@@ -82,22 +84,27 @@ module _ {n : ℕ} {w : Points} {r a i : ℕ} {w1 w2 w2' : List ℕ} (h : Starts
           get_or-set_other w2' (at_starts + a) (at_starts + b) i 0 (λ q. d (omega arith))
           ∙ g.starts b (omega (arith, d))
 
-pub starts_all : {n : ℕ} {w : Points} {a i : ℕ} {w2 w2' : List ℕ} → StartsTo n w a i w2 w2' → n ≤ a
-    → StartsIn n w w2 w2'
-starts_all g l = record { starts = λ b m. g.starts b (omega arith); only = g.only }
-
 -- ---- words set to zero
 
--- The words for crate sets below i are zero.
-abbrev pub ZeroTo : ℕ → List ℕ → Type 0
-ZeroTo i w2 = (m : ℕ) → at_points + m < i → get_or w2 (at_points + m) 0 ≡ 0
-
-pub zero_more : (i : ℕ) (w2 : List ℕ) → i < length w2 → ZeroTo i w2 → ZeroTo (i + 1) (set w2 i 0)
-zero_more i w2 l z m b = go (eq_test (at_points + m) i)
+pub part_blank : (a e : ℕ) (w ys : List ℕ) → a ≤ e → e ≤ length w → ys ≡ zeros (length (mid_of a (e - a) w))
+    → Only a e w (put_mid a (e - a) w ys)
+part_blank a e w ys n l z = record { long = same_len_mid a (e - a) w ys wide; same = same }
   where
-    go : {t : Bool} → Test (at_points + m ≡ i) (at_points + m ≢ i) t → get_or (set w2 i 0) (at_points + m) 0 ≡ 0
-    go (pass e) = rw e (get_or-set_same w2 i 0 0 l)
-    go (fail d) = get_or-set_other w2 i (at_points + m) 0 0 d ∙ z m (omega (arith, d))
+    wide : length ys ≡ length (mid_of a (e - a) w)
+    wide = ap length z ∙ length-replicate {A = ℕ} (length (mid_of a (e - a) w)) 0
+
+    same : (j : ℕ) → (j < a) ⊎ (e ≤ j) → get_or (put_mid a (e - a) w ys) j 0 ≡ get_or w j 0
+    same j (inl m) =
+        sym (get_or-take a (put_mid a (e - a) w ys) j 0 m)
+        ∙ ap (λ (xs : List ℕ). get_or xs j 0) (take_put a (e - a) w ys (omega arith))
+        ∙ get_or-take a w j 0 m
+    same j (inr m) =
+        let q : e + (j - e) ≡ j = omega arith in
+        let h = get_or-drop e (put_mid a (e - a) w ys) (j - e) 0 in
+        let k = get_or-drop e w (j - e) 0 in
+        sym (rw q at h)
+        ∙ ap (λ (xs : List ℕ). get_or xs (j - e) 0) (drop_put a e w ys n l (wide ∙ mid_len a e w l))
+        ∙ rw q at k
 
 -- ---- the cells that links lead over
 
@@ -117,91 +124,78 @@ leads_end next [] k h = omega arith
 leads_end next (c ∷ cs) zero h = absurd (omega (arith, h.0))
 leads_end next (c ∷ cs) (suc k) h = omega (arith, leads_end next cs k h)
 
--- The first k cells are stored, and the links lead from p over the others.
-pub record Walked (cs : List ℕ) (w2 w2' : List ℕ) (k p : ℕ) : Type 0 where
-  pub within : k ≤ length cs
-  pub leads : Leads (link_in w2) p (drop k cs)
+-- The first k cells are stored, and c is the next one.
+pub record Walked (cs : List ℕ) (w2 w2' : List ℕ) (k c : ℕ) : Type 0 where
+  pub within : k < length cs
+  pub here : c ≡ get_or cs k 0
+  pub leads : Leads (link_in w2) (link_in w2 c) (drop (suc k) cs)
   pub cells : (i : ℕ) → i < k → cell_in w2' i ≡ get_or cs i 0
   pub others : (i : ℕ) → i < 12 → (cell_in w2' i < 1024) ⊎ (cell_in w2' i ≡ cell_in w2 i)
   pub only : Only at_places (at_places + 12) w2 w2'
 
-pub walk_first : {cs : List ℕ} {d : ℕ} {w2 : List ℕ} → LinksThere cs d w2 → d < 1024
-walk_first {cs} {d} {w2} h =
-    let n = leads_next (link_in w2) (suc d) cs 0 (λ e. omega arith) h.leads in
-    omega (arith, n.1, all_place (λ c. c < 1024) cs h.low 0 n.0)
+module _ {cs : List ℕ} {d : ℕ} {w2 w2' : List ℕ} {k c : ℕ} (h : LinksThere cs d w2) (g : Walked cs w2 w2' k c) where
+  pub walk_low : c < 1024
+  walk_low = omega (arith, g.here, all_place (λ x. x < 1024) cs h.low k g.within)
 
-pub walk_none : {cs : List ℕ} {d : ℕ} {w2 : List ℕ} → LinksThere cs d w2 → Walked cs w2 w2 0 (d + 1)
-walk_none {cs} {d} {w2} h = record {
-  within = omega arith;
-  leads = rw add-one h.leads;
-  cells = λ i l. absurd (omega arith);
-  others = λ i l. inr refl;
-  only = only_none at_places (at_places + 12) w2;
-}
+  -- c is stored
+  module _ (l : k < 12) where
+    abbrev after : List ℕ
+    after = set w2' (at_places + k) c
 
-module _ {cs : List ℕ} {d : ℕ} {w2 w2' : List ℕ} {k p : ℕ} (h : LinksThere cs d w2) (g : Walked cs w2 w2' k p) where
-  module _ (n : p ≢ 0) where
-    next : (k < length cs) × (p ≡ suc (get_or cs k 0))
-        × Leads (link_in w2) (link_in w2 (get_or cs k 0)) (drop (suc k) cs)
-    next = leads_next (link_in w2) p cs k n g.leads
+    kept : (j : ℕ) → j ≢ at_places + k → get_or after j 0 ≡ get_or w2' j 0
+    kept j o = get_or-set_other w2' (at_places + k) j c 0 o
 
-    pub walk_low : p ≤ 1024
-    walk_low = omega (arith, next.1, all_place (λ c. c < 1024) cs h.low k next.0)
+    set_here : cell_in after k ≡ c
+    set_here = get_or-set_same w2' (at_places + k) c 0 (omega (arith, h.room2, g.only.long))
 
-    pub walk_more : k < 12 → Walked cs w2 (set w2' (at_places + k) (p - 1)) (k + 1)
-        (link_in (set w2' (at_places + k) (p - 1)) (p - 1))
-    walk_more l = record {
-      within = omega (arith, next.0);
-      leads = rw (add-one, link, cell) next.2;
-      cells = λ i m. stored i m (eq_test i k);
-      others = λ i m. old i m (eq_test i k);
-      only = only_set g.only (at_places + k) (p - 1) (omega arith) (omega arith);
-    }
+    link : link_in after c ≡ link_in w2 c
+    link =
+        ap (λ x. x / link_field)
+        (kept (at_labels + c) (λ e. omega arith) ∙ g.only.same (at_labels + c) (inr (omega arith)))
+
+    all : (i : ℕ) → i < k + 1 → cell_in after i ≡ get_or cs i 0
+    all i m = go (eq_test i k)
       where
-        cell : p - 1 ≡ get_or cs k 0
-        cell = omega (arith, next.1)
+        go : {t : Bool} → Test (i ≡ k) (i ≢ k) t → cell_in after i ≡ get_or cs i 0
+        go (pass e) = rw e (set_here ∙ g.here)
+        go (fail o) = kept (at_places + i) (λ e. o (omega arith)) ∙ g.cells i (omega (arith, o))
 
-        kept : (j : ℕ) → j ≢ at_places + k → get_or (set w2' (at_places + k) (p - 1)) j 0 ≡ get_or w2' j 0
-        kept j o = get_or-set_other w2' (at_places + k) j (p - 1) 0 o
+    old : (i : ℕ) → i < 12 → (cell_in after i < 1024) ⊎ (cell_in after i ≡ cell_in w2 i)
+    old i m = go (eq_test i k)
+      where
+        go : {t : Bool} → Test (i ≡ k) (i ≢ k) t → (cell_in after i < 1024) ⊎ (cell_in after i ≡ cell_in w2 i)
+        go (pass e) = inl (rw e (omega (arith, set_here, walk_low)))
+        go (fail o) = rw (kept (at_places + i) (λ e. o (omega arith))) (g.others i m)
 
-        here : cell_in (set w2' (at_places + k) (p - 1)) k ≡ p - 1
-        here = get_or-set_same w2' (at_places + k) (p - 1) 0 (omega (arith, h.room2, g.only.long))
+    still : Only at_places (at_places + 12) w2 after
+    still = only_set g.only (at_places + k) c (omega arith) (omega arith)
 
-        link : link_in (set w2' (at_places + k) (p - 1)) (p - 1) ≡ link_in w2 (p - 1)
-        link =
-            ap (λ x. x / link_field)
-            (kept (at_labels + (p - 1)) (λ e. omega arith) ∙ g.only.same (at_labels + (p - 1)) (inr (omega arith)))
+    pub walk_more : {n : ℕ} → named (link_in after c) ≡ Some n → Walked cs w2 after (k + 1) n
+    walk_more {n} e =
+        let s : link_in w2 c ≡ suc n = sym link ∙ named_some _ n e in
+        let x = leads_next (link_in w2) (link_in w2 c) cs (suc k) (λ z. omega (arith, s, z)) g.leads in
+        let y : get_or cs (suc k) 0 ≡ n = omega (arith, s, x.1) in
+        record {
+          within = omega (arith, x.0);
+          here = rw add-one (sym y);
+          leads = rw add-one (rw y at x.2);
+          cells = all;
+          others = old;
+          only = still;
+        }
 
-        stored : (i : ℕ) → i < k + 1 → {t : Bool} → Test (i ≡ k) (i ≢ k) t
-            → cell_in (set w2' (at_places + k) (p - 1)) i ≡ get_or cs i 0
-        stored i m (pass e) = rw e (here ∙ cell)
-        stored i m (fail o) = kept (at_places + i) (λ e. o (omega arith)) ∙ g.cells i (omega (arith, o))
-
-        old : (i : ℕ) → i < 12 → {t : Bool} → Test (i ≡ k) (i ≢ k) t
-            → (cell_in (set w2' (at_places + k) (p - 1)) i < 1024)
-            ⊎ (cell_in (set w2' (at_places + k) (p - 1)) i ≡ cell_in w2 i)
-        old i m (pass e) = inl (rw e (omega (arith, here, walk_low)))
-        old i m (fail o) = rw (kept (at_places + i) (λ e. o (omega arith))) (g.others i m)
-
-    pub walk_crowded : 12 ≤ k → Gathers cs w2 w2' 13
-    walk_crowded l = record {
-      crowded = λ m. omega (arith, next.0);
-      count = λ m. absurd (omega arith);
-      cells = λ m. absurd (omega arith);
-      others = g.others;
-      only = g.only;
-    }
-
-  pub walk_all : k ≤ 12 → p ≡ 0 → Gathers cs w2 w2' k
-  walk_all l z = record {
-    crowded = λ m. absurd (omega arith);
-    count = λ m. omega (arith, g.within, leads_end (link_in w2) cs k (rw z at g.leads));
-    cells = λ m. g.cells;
-    others = g.others;
-    only = g.only;
-  }
-
--- ---- the points of a place
+    pub walk_last : named (link_in after c) ≡ None → Gathers cs w2 after (Some (k + 1))
+    walk_last e =
+        let z : link_in w2 c ≡ 0 = sym link ∙ named_none _ e in
+        record {
+          told = (
+            omega arith,
+            omega (arith, g.within, leads_end (link_in w2) cs (suc k) (rw z at g.leads)),
+            all,
+          );
+          others = old;
+          only = still;
+        }
 
 -- Between neighbours is no member.
 between : (cs : List ℕ) → Rises cs → (j b : ℕ) → suc j < length cs → get_or cs j 0 < b → b < get_or cs (suc j) 0
@@ -219,14 +213,31 @@ between (x ∷ y ∷ ys) a (suc j) b l m o =
 
 -- What is found at a row.
 module _ (w1 : List ℕ) (e end b : ℕ) where
-  pub points_none : end ≤ e → points_between w1 e end b ≡ 0
+  points_none : end ≤ e → points_between w1 e end b ≡ None
   points_none l = rw (le-ltb e end l)
 
-  pub points_other : e < end → get_or w1 e 0 / unit ≢ b → points_between w1 e end b ≡ 0
+  points_other : e < end → get_or w1 e 0 / unit ≢ b → points_between w1 e end b ≡ None
   points_other l d = rw (lt-ltb e end l, ne_eqb (get_or w1 e 0 / unit) b d)
 
-  pub points_own : e < end → get_or w1 e 0 / unit ≡ b → points_between w1 e end b ≡ get_or w1 e 0 % unit
+  points_own : e < end → get_or w1 e 0 / unit ≡ b → points_between w1 e end b ≡ Some (get_or w1 e 0 % unit)
   points_own l q = rw (lt-ltb e end l, eq-eqb (get_or w1 e 0 / unit) b q)
+
+-- Points, if they are not 0.
+abbrev some_points : ℕ → Option ℕ
+some_points zero = None
+some_points (suc x) = Some (suc x)
+
+some_pass : (x : ℕ) → 0 < x → some_points x ≡ Some x
+some_pass zero l = absurd (omega arith)
+some_pass (suc x) l = refl
+
+some_is : (x y : ℕ) → some_points x ≡ Some y → (y ≡ x) × (0 < x)
+some_is zero y e = cc
+some_is (suc x) y e = (cc, omega arith)
+
+some_none : (x : ℕ) → some_points x ≡ None → x ≡ 0
+some_none zero e = refl
+some_none (suc x) e = cc
 
 -- The points from place i to those behind it and before j are stored, and before the row e stand those of the lower
 -- cells and those of the cell at place i with cells below that at place j.
@@ -253,9 +264,6 @@ module _ {w : Points} {cs : List ℕ} {k : ℕ} {w1 w2 : List ℕ} (p : PlacesTh
     end =
         let e : at_starts + get_or cs i 0 + 1 ≡ at_starts + suc (get_or cs i 0) = omega arith in
         rw (p.places i (omega arith), e) (p.starts (suc (get_or cs i 0)) inner)
-
-    pub row_low : cell_in w2 i + 1 < 1024
-    row_low = omega (arith, p.places i (omega arith), inner, p.cells)
 
     pub row_few : get_or w2 (at_starts + cell_in w2 i + 1) 0 ≤ 4096
     row_few = omega (arith, end, run_few p.n w (get_or cs i 0) (omega (arith, inner)), p.most)
@@ -293,7 +301,7 @@ module _ {w : Points} {cs : List ℕ} {k : ℕ} {w1 w2 : List ℕ} (p : PlacesTh
 
       -- the points found are the graph's
       found : points_between w1 e (get_or w2 (at_starts + cell_in w2 i + 1) 0) (cell_in w2' j)
-          ≡ w (get_or cs i 0) (get_or cs j 0)
+          ≡ some_points (w (get_or cs i 0) (get_or cs j 0))
       found = rw (row_cell, end, g.met b) (go (lt_test 0 (w a c)))
         where
           a : ℕ
@@ -311,20 +319,23 @@ module _ {w : Points} {cs : List ℕ} {k : ℕ} {w1 w2 : List ℕ} (p : PlacesTh
           word : at < stop → get_or w1 at 0 ≡ row_word (get_or (short_list p.n w) at no_entry)
           word q = p.rows at (omega (arith, run_few p.n w a (omega (arith, inner))))
 
-          other : w a c ≡ 0 → {t : Bool} → Test (at < stop) (stop ≤ at) t → points_between w1 at stop c ≡ 0
+          other : w a c ≡ 0 → {t : Bool} → Test (at < stop) (stop ≤ at) t → points_between w1 at stop c ≡ None
           other z (pass q) =
               let f = run_missed p.n w a c (omega (arith, inner)) (low j b) z q in
               points_other w1 at stop c q
               (λ y. omega (arith, word q, f, p.small a (get_or (short_list p.n w) at no_entry).1))
           other z (fail q) = points_none w1 at stop c q
 
-          go : {t : Bool} → Test (0 < w a c) (w a c ≤ 0) t → points_between w1 at stop c ≡ w a c
+          go : {t : Bool} → Test (0 < w a c) (w a c ≤ 0) t → points_between w1 at stop c ≡ some_points (w a c)
           go (pass h) =
               let q = run_within p.n w a c (omega (arith, inner)) (low j b) (rising i j m b) h in
               let f = run_met p.n w a c (omega (arith, inner)) (low j b) (rising i j m b) h in
               let y : get_or w1 at 0 ≡ c * unit + w a c = word q ∙ ap row_word f in
-              points_own w1 at stop c q (omega (arith, p.small a c)) ∙ omega (arith, p.small a c)
-          go (fail h) = (let z : w a c ≡ 0 = omega arith in other z (lt_test at stop) ∙ sym z)
+              let u : get_or w1 at 0 % unit ≡ w a c = omega (arith, p.small a c) in
+              points_own w1 at stop c q (omega (arith, p.small a c)) ∙ ap Some u ∙ sym (some_pass (w a c) h)
+          go (fail h) =
+              let z : w a c ≡ 0 = omega arith in
+              other z (lt_test at stop) ∙ sym (ap some_points z)
 
       before_next : suc j < k → before p.n w (get_or cs i 0) (get_or cs (suc j) 0)
           ≡ before p.n w (get_or cs i 0) (suc (get_or cs j 0))
@@ -338,60 +349,56 @@ module _ {w : Points} {cs : List ℕ} {k : ℕ} {w1 w2 : List ℕ} (p : PlacesTh
           run_skip p.n w (get_or cs i 0) (get_or cs j 0) (suc (get_or cs j 0)) (omega arith)
           (λ c x y. inr (let q : c ≡ get_or cs j 0 = omega arith in rw q z))
 
-      module _ {x : ℕ} (v : x ≡ points_between w1 e (get_or w2 (at_starts + cell_in w2 i + 1) 0) (cell_in w2' j)) where
-        stored : RowIn w cs (j + 1) i w2 (set w2' (at_points + (12 * i + j)) x)
-        stored = record {
-          points = λ h y q. at h y q (eq_test h j);
-          light = λ h q. small h q (eq_test (at_points + h) t);
-          only = only_set g.row.only t x (omega arith) (omega (arith, p.few));
-        }
-          where
-            t : ℕ
-            t = at_points + (12 * i + j)
+      stored : {x : ℕ} → x ≡ w (get_or cs i 0) (get_or cs j 0)
+          → RowIn w cs (j + 1) i w2 (set w2' (at_points + (12 * i + j)) x)
+      stored {x} v = record {
+        points = λ h y q. at h y q (eq_test h j);
+        light = λ h q. small h q (eq_test (at_points + h) t);
+        only = only_set g.row.only t x (omega arith) (omega (arith, p.few));
+      }
+        where
+          t : ℕ
+          t = at_points + (12 * i + j)
 
-            here : get_or (set w2' t x) t 0 ≡ x
-            here = get_or-set_same w2' t x 0 (omega (arith, p.few, p.room2, g.row.only.long))
+          here : get_or (set w2' t x) t 0 ≡ x
+          here = get_or-set_same w2' t x 0 (omega (arith, p.few, p.room2, g.row.only.long))
 
-            at : (h : ℕ) → i < h → h < j + 1 → {u : Bool} → Test (h ≡ j) (h ≢ j) u
-                → points_in (set w2' t x) i h ≡ w (get_or cs i 0) (get_or cs h 0)
-            at h y q (pass z) = rw z (here ∙ v ∙ found)
-            at h y q (fail d) =
-                get_or-set_other w2' t (at_points + (12 * i + h)) x 0 (λ z. d (omega arith))
-                ∙ g.row.points h y (omega (arith, d))
+          at : (h : ℕ) → i < h → h < j + 1 → {u : Bool} → Test (h ≡ j) (h ≢ j) u
+              → points_in (set w2' t x) i h ≡ w (get_or cs i 0) (get_or cs h 0)
+          at h y q (pass z) = rw z (here ∙ v)
+          at h y q (fail d) =
+              get_or-set_other w2' t (at_points + (12 * i + h)) x 0 (λ z. d (omega arith))
+              ∙ g.row.points h y (omega (arith, d))
 
-            small : (h : ℕ) → h < 144 → {u : Bool} → Test (at_points + h ≡ t) (at_points + h ≢ t) u
-                → get_or (set w2' t x) (at_points + h) 0 < points_room
-            small h q (pass z) = rw z (omega (arith, here, v, found, p.small (get_or cs i 0) (get_or cs j 0)))
-            small h q (fail d) = rw (get_or-set_other w2' t (at_points + h) x 0 d) (g.row.light h q)
+          small : (h : ℕ) → h < 144 → {u : Bool} → Test (at_points + h ≡ t) (at_points + h ≢ t) u
+              → get_or (set w2' t x) (at_points + h) 0 < points_room
+          small h q (pass z) = rw z (omega (arith, here, v, p.small (get_or cs i 0) (get_or cs j 0)))
+          small h q (fail d) = rw (get_or-set_other w2' t (at_points + h) x 0 d) (g.row.light h q)
 
-        -- the row at e was met, or it was not
-        pub row_in : 0 < x → RowTo p.n w cs k i (e + 1) (j + 1) w2 (set w2' (at_points + (12 * i + j)) x)
-        row_in h = record {
-          row = stored;
+      -- the row at e was met, or it was not
+      module _ {x : ℕ}
+          (v : points_between w1 e (get_or w2 (at_starts + cell_in w2 i + 1) 0) (cell_in w2' j) ≡ Some x) where
+        met : (x ≡ w (get_or cs i 0) (get_or cs j 0)) × (0 < w (get_or cs i 0) (get_or cs j 0))
+        met = some_is _ x (sym found ∙ v)
+
+        pub row_in : RowTo p.n w cs k i (e + 1) (j + 1) w2 (set w2' (at_points + (12 * i + j)) x)
+        row_in = record {
+          row = stored met.0;
           met = λ q.
               let z : e + 1 ≡ suc e = omega arith in
               rw (z, add-one j, before_next (omega arith))
               (ap suc (g.met b) ∙ sym (run_longer p.n w (get_or cs i 0) (get_or cs j 0) (omega (arith, inner)) (low j b)
-              (rising i j m b) (omega (arith, v, found))));
+              (rising i j m b) met.1));
         }
 
-        pub row_small : 0 < x → e < 4096
-        row_small h =
-            omega (
-              arith,
-              g.met b,
-              run_within p.n w (get_or cs i 0) (get_or cs j 0) (omega (arith, inner)) (low j b) (rising i j m b)
-                  (omega (arith, v, found)),
-              run_few p.n w (get_or cs i 0) (omega (arith, inner)),
-              p.most,
-            )
-
-        pub row_out : x ≤ 0 → RowTo p.n w cs k i e (j + 1) w2 (set w2' (at_points + (12 * i + j)) x)
-        row_out h = record {
-          row = stored;
-          met = λ q.
-              rw (add-one j, before_next (omega arith), before_same (omega (arith, v, found))) (g.met b);
-        }
+      pub row_out : points_between w1 e (get_or w2 (at_starts + cell_in w2 i + 1) 0) (cell_in w2' j) ≡ None
+          → RowTo p.n w cs k i e (j + 1) w2 (set w2' (at_points + (12 * i + j)) 0)
+      row_out v =
+          let z = some_none _ (sym found ∙ v) in
+          record {
+            row = stored (sym z);
+            met = λ q. rw (add-one j, before_next (omega arith), before_same z) (g.met b);
+          }
 
 pub row_all : {n : ℕ} {w : Points} {cs : List ℕ} {k i e j : ℕ} {w2 w2' : List ℕ} → RowTo n w cs k i e j w2 w2' → k ≤ j
     → RowIn w cs k i w2 w2'

@@ -1,10 +1,10 @@
 -- The runs of the rows: a short list has for each lower cell a run of entries, ascending by the higher cell. In order:
 -- lists of which one goes on from another (`Onto`); so do the entries of a lower cell, and those of the lower cells
 -- below one; how many entries stand before the pair of two cells (`before`), over which cells this number stays
--- (`run_skip`), and which entry stands there (`run_met`, `run_missed`); where a run ends (`own_more`, `run_ends`).
+-- (`run_skip`), and which entry stands there (`run_met`, `run_missed`); where a run ends (`run_ends`).
 -- Assumes nothing.
 use mathlib.Core.Path.{◌≡◌, refl, sym, ap, ◌∙◌}
-use mathlib.Core.Logic.{◌⊎◌, inl, inr, ◌≢◌}
+use mathlib.Core.Logic.{◌⊎◌, inl, inr}
 use mathlib.Core.Bool.{Bool, true, false, cond, ◌&&◌}
 use mathlib.Core.List.{List, [], ◌∷◌, ◌++◌, append-nil, append_assoc}
 use Prim.Native.Nat.{ℕ, zero, suc, ◌+◌, ◌-◌, ◌≤◌, ◌<◌}
@@ -16,7 +16,7 @@ use lib.Seq.{get_or-append-add, get_or-append_seam}
 use Rattle.matching.specs.Lists.{All}
 use Rattle.matching.specs.Pairs.{Points}
 use Rattle.matching.specs.Listed.{Entry, short_at, short_below, short_list}
-use Rattle.matching.proofs.Tests.{Test, pass, fail, eq_test, lt_test, and_test}
+use Rattle.matching.proofs.Tests.{Test, pass, fail, lt_test, and_test}
 use Rattle.matching.proofs.Alls.{all_map, all_append}
 use Rattle.cellfile.specs.Words.{no_entry, RowsOf}
 use Rattle.buffers.specs.Map.{at_cells}
@@ -187,13 +187,6 @@ module _ (n : ℕ) (w : Points) (a : ℕ) where
 -- The lower cells of the rows from i on and before j are a.
 abbrev pub Owned : ℕ → ℕ → ℕ → List ℕ → Type 0
 Owned i j a w1 = (x : ℕ) → i ≤ x → x < j → get_or w1 (at_cells + x) 0 ≡ a
-
-pub own_more : (i j a : ℕ) (w1 : List ℕ) → Owned i j a w1 → get_or w1 (at_cells + j) 0 ≡ a → Owned i (j + 1) a w1
-own_more i j a w1 h e x l m = go (eq_test x j)
-  where
-    go : {t : Bool} → Test (x ≡ j) (x ≢ j) t → get_or w1 (at_cells + x) 0 ≡ a
-    go (pass q) = rw q e
-    go (fail d) = h x l (omega (arith, d))
 
 -- behind the rows from the start of the run on whose lower cell is its own
 pub run_ends : (n : ℕ) (w : Points) {a r j : ℕ} {w1 : List ℕ} → RowsOf (short_list n w) r w1 → a < n

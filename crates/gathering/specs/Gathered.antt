@@ -5,6 +5,8 @@
 -- from place i to a higher place j at 12 × i + j; from `at_places` on the cells at their places; from `at_labels` on
 -- the links.
 use Rattle.std.specs.Prelude.{◌≡◌, ◌⊎◌, ◌≢◌, cond, List, ℕ, suc, ◌+◌, ◌*◌, ◌/◌, ◌%◌, ◌≤◌, ◌<◌, eqb, ltb, length, get_or}
+use Rattle.std.specs.Prelude.{Option, None, Some}
+use Rattle.std.specs.Option.{MatchOption}
 use Rattle.buffers.specs.Map.{unit, at_cells, at_starts, at_points, at_places}
 use Rattle.matching.specs.Lists.{All, mem, Ascends}
 use Rattle.matching.specs.Pairs.{Points}
@@ -61,19 +63,19 @@ pub record LinksThere (cs : List ℕ) (d : ℕ) (w2 : List ℕ) : Type 0 where
   pub leads : Leads (link_in w2) (suc d) cs
   pub low : All (λ c. c < 1024) cs
 
--- They stand at their places; or they are more than 12.
-pub record Gathers (cs : List ℕ) (w2 w2' : List ℕ) (k : ℕ) : Type 0 where
-  pub crowded : 12 < k → 12 < length cs
-  pub count : k ≤ 12 → k ≡ length cs
-  pub cells : k ≤ 12 → (i : ℕ) → i < k → cell_in w2' i ≡ get_or cs i 0
+-- They stand at their places, and their number is told; or they are more than 12.
+pub record Gathers (cs : List ℕ) (w2 w2' : List ℕ) (r : Option ℕ) : Type 0 where
+  pub told : MatchOption r (12 < length cs)
+      (λ k. (k ≤ 12) × (k ≡ length cs) × ((i : ℕ) → i < k → cell_in w2' i ≡ get_or cs i 0))
   pub others : (i : ℕ) → i < 12 → (cell_in w2' i < 1024) ⊎ (cell_in w2' i ≡ cell_in w2 i)
   pub only : Only at_places (at_places + 12) w2 w2'
 
 -- ---- points
 
--- The points of the row at e, if it is before the end and of the cell b; else 0.
-abbrev pub points_between : List ℕ → (e end b : ℕ) → ℕ
-points_between w1 e end b = cond (ltb e end) (cond (eqb (get_or w1 e 0 / unit) b) (get_or w1 e 0 % unit) 0) 0
+-- The points of the row at e, if it is before the end and of the cell b.
+abbrev pub points_between : List ℕ → (e end b : ℕ) → Option ℕ
+points_between w1 e end b =
+    cond (ltb e end) (cond (eqb (get_or w1 e 0 / unit) b) (Some (get_or w1 e 0 % unit)) None) None
 
 -- The cells cs, which ascend and have no pairs but with one another, stand at the first k places, and the rows of the
 -- graph in the first buffer, with where the runs start.

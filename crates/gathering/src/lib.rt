@@ -6,7 +6,8 @@ ghost use Rattle.matching.specs.Pairs.{Points};
 ghost use Rattle.gathering.specs.Gathered.{points_between, RunEnd, StartsThere, StartsIn, Blank, LinksThere, Gathers};
 ghost use Rattle.gathering.specs.Gathered.{PlacesThere, RowIn, PointsIn};
 
-use buffers::map::{CELL_WORDS, LABELS, LINK_FIELD, PLACES, POINTS, POINTS_UNIT, STARTS};
+use buffers::map::{CELL_WORDS, PLACES, POINTS, POINTS_UNIT, STARTS};
+use grouping;
 use sets::MOST;
 
 // The first row from i on, of r rows, whose lower cell is not a.
@@ -14,14 +15,12 @@ fn run_end(w1: &[u64], i: usize, r: usize, a: usize) -> usize
     requires { (8192 ≤ length w1.now) × (i ≤ r) × (r ≤ 4096) }
     ensures { RunEnd i r a w1.now result }
 {
-    let mut j = i;
-    while j < r {
+    for j in i..r {
         if w1[CELL_WORDS + j] != a as u64 {
             return j;
         }
-        j += 1;
     }
-    j
+    r
 }
 
 // Where the run of the rows of each of n cells starts, among r rows.
@@ -31,11 +30,9 @@ pub fn find_starts(w1: &[u64], w2: &mut [u64], r: usize, n: usize)
         → StartsIn n w w2.old w2.new }
 {
     let mut i = 0;
-    let mut a = 0;
-    while a < n {
+    for a in 0..n {
         w2[STARTS + a] = i as u64;
         i = run_end(w1, i, r, a);
-        a += 1;
     }
 }
 
@@ -44,47 +41,33 @@ pub fn blank(w2: &mut [u64])
     requires { 8192 ≤ length w2.old }
     ensures { Blank w2.old w2.new }
 {
-    let mut i = POINTS;
-    while i < PLACES + MOST {
-        w2[i] = 0;
-        i += 1;
-    }
+    w2[POINTS..PLACES + MOST].fill(0);
 }
 
-// The cells that the links lead over from d on are stored at their places: how many they are, or 13 where they are more
-// than 12.
-pub fn gather_cells(w2: &mut [u64], d: usize) -> usize
+// The cells that the links lead over from d on are stored at their places: how many they are, if no more than 12.
+pub fn gather_cells(w2: &mut [u64], d: usize) -> Option<usize>
     requires { (cs : List ℕ) × LinksThere cs d w2.old }
     ensures { (cs : List ℕ) → LinksThere cs d w2.old
         → Gathers cs w2.old w2.new result }
 {
-    let mut k = 0;
-    let mut p = d + 1;
-    while p != 0 {
-        if MOST <= k {
-            return MOST + 1;
-        }
-        let c = p - 1;
+    let mut c = d;
+    for k in 0..MOST {
         w2[PLACES + k] = c as u64;
-        p = (w2[LABELS + c] / LINK_FIELD) as usize;
-        k += 1;
+        let Some(next) = grouping::next(w2, c) else {
+            return Some(k + 1);
+        };
+        c = next;
     }
-    k
+    None
 }
 
-// The points of the row at e, if it is before the end and of the cell b; else 0.
-fn points_at(w1: &[u64], e: usize, end: usize, b: u64) -> u64
+// The points of the row at e, if it is before the end and of the cell b.
+fn points_at(w1: &[u64], e: usize, end: usize, b: u64) -> Option<u64>
     requires { end ≤ length w1.now }
     ensures { result ≡ points_between w1.now e end b }
 {
-    if end <= e {
-        return 0;
-    }
-    let x = w1[e];
-    if x / POINTS_UNIT != b {
-        return 0;
-    }
-    x % POINTS_UNIT
+    let row = *w1[..end].get(e)?;
+    (row / POINTS_UNIT == b).then_some(row % POINTS_UNIT)
 }
 
 // The points between the cell at place i and those at the places behind it, of k, are stored. The run of the cell's
@@ -97,13 +80,14 @@ fn gather_row(w1: &[u64], w2: &mut [u64], k: usize, i: usize)
     let a = w2[PLACES + i] as usize;
     let end = w2[STARTS + a + 1] as usize;
     let mut e = w2[STARTS + a] as usize;
-    let mut j = i + 1;
-    while j < k {
-        let x = points_at(w1, e, end, w2[PLACES + j]);
-        w2[POINTS + (MOST * i + j)] = x;
-        j += 1;
-        if 0 < x {
-            e += 1;
+    for j in i + 1..k {
+        let at = POINTS + (MOST * i + j);
+        match points_at(w1, e, end, w2[PLACES + j]) {
+            Some(points) => {
+                w2[at] = points;
+                e += 1;
+            }
+            None => w2[at] = 0,
         }
     }
 }
@@ -114,9 +98,7 @@ pub fn gather_points(w1: &[u64], w2: &mut [u64], k: usize)
     ensures { (w : Points) (cs : List ℕ) → PlacesThere w cs k w1.now w2.old
         → PointsIn w cs k w2.old w2.new }
 {
-    let mut i = 0;
-    while i + 1 < k {
+    for i in 0..k.saturating_sub(1) {
         gather_row(w1, w2, k, i);
-        i += 1;
     }
 }

@@ -9,7 +9,6 @@ use native.Mathlib.Omega.{arith}
 use lib.Dec.{ltb}
 use lib.ListN.{length, set, length-set}
 use lib.Seq.{get_or-set_same, get_or-set_other}
-use borrow.Author.Tests.{lt-ltb, le-ltb}
 use Rattle.buffers.specs.Map.{at_sums, at_lasts, at_labels}
 use Rattle.matching.specs.Pairs.{Points}
 use Rattle.matching.specs.Graph.{Graph, partners}
@@ -18,7 +17,7 @@ use Rattle.matching.proofs.More.{degree_more}
 use Rattle.slots.specs.Slots.{store, graph, last, Holds, low_of, high_of}
 use Rattle.slots.proofs.Links.{last_same}
 use Rattle.grouping.specs.Labels.{own}
-use Rattle.grouping.specs.Finding.{words_in, FrontKept, OwnIn}
+use Rattle.grouping.specs.Finding.{words_in, FrontKept}
 
 -- ---- words below the labels
 
@@ -58,12 +57,6 @@ holds_front {e} {w1} {w2} {w2'} h f = record {
 
 -- ---- the label of a cell
 
-pub label_none : (c p : ℕ) → p ≡ 0 → 0 ≡ cond (ltb 0 p) (suc c) 0
-label_none c p e = rw (le-ltb 0 p (omega arith))
-
-pub label_some : (c p : ℕ) → p ≢ 0 → c + 1 ≡ cond (ltb 0 p) (suc c) 0
-label_some c p d = rw (lt-ltb 0 p (omega (arith, d))) (omega arith)
-
 pub own_at : {n : ℕ} {w : Points} {r v : ℕ} (c : ℕ) → Graph n w → n ≤ 1024 → r ≡ length (partners 1024 w c)
     → v ≡ cond (ltb 0 r) (suc c) 0 → v ≡ own n w c
 own_at c g l e q = q ∙ ap (λ (p : ℕ). cond (ltb 0 p) (suc c) 0) (e ∙ degree_more g 1024 l c)
@@ -74,9 +67,6 @@ own_at c g l e q = q ∙ ap (λ (p : ℕ). cond (ltb 0 p) (suc c) 0) (e ∙ degr
 pub record Labelling (n : ℕ) (w : Points) (k : ℕ) (w2 w2' : List ℕ) : Type 0 where
   pub front : FrontKept w2 w2'
   pub labels : (c : ℕ) → c < k → words_in w2' c ≡ own n w c
-
-pub labels_first : {n : ℕ} {w : Points} {w2 : List ℕ} → Labelling n w 0 w2 w2
-labels_first = record { front = front_none; labels = λ c l. absurd (omega arith) }
 
 module _ {n : ℕ} {w : Points} {k : ℕ} {w2 w2' : List ℕ} (s : Labelling n w k w2 w2') where
   pub labels_more : {v : ℕ} → at_labels + k < length w2' → v ≡ own n w k
@@ -89,6 +79,3 @@ module _ {n : ℕ} {w : Points} {k : ℕ} {w2 w2' : List ℕ} (s : Labelling n w
       go c l (fail d) =
           get_or-set_other w2' (at_labels + k) (at_labels + c) v 0 (λ q. d (omega arith))
           ∙ s.labels c (omega (arith, d))
-
-  pub labels_all : n ≤ k → OwnIn n w w2 w2'
-  labels_all l = record { labels = λ c b. s.labels c (omega arith); front = s.front }

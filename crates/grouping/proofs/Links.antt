@@ -1,12 +1,14 @@
 -- The cells of a class linked behind its first cell. In order: those of some cells that are not below k, and links that
--- stay where the words of their cells do (`leads_kept`); one cell more, which stays as it is (`link_none`, `link_own`)
--- or is put behind the first cell (`link_put`); the cells one by one (`Linking`); the labels after levelling are ready
--- (`link_there`), and at the end the links lead from a first cell over its class (`linked_class`). Assumes nothing.
+-- stay where the words of their cells do (`leads_kept`); the cell that a number names (`named_some`); one cell more,
+-- which stays as it is (`link_none`, `link_own`) or is put behind the first cell (`link_put`); the cells one by one
+-- (`Linking`); the labels after levelling are ready (`link_there`), and at the end the links lead from a first cell over
+-- its class (`linked_class`). Assumes nothing.
 use mathlib.Core.Path.{◌≡◌, refl, sym, ap, subst, ◌∙◌}
 use mathlib.Core.Logic.{◌⊎◌, inl, inr, ◌≢◌}
 use mathlib.Core.Bool.{Bool, true, false, cond}
 use mathlib.Core.List.{List, [], ◌∷◌}
-use Prim.Native.Nat.{ℕ, suc, ◌+◌, ◌*◌, ◌-◌, ◌/◌, ◌%◌, ◌≤◌, ◌<◌, max}
+use Rattle.std.specs.Prelude.{None, Some}
+use Prim.Native.Nat.{ℕ, zero, suc, ◌+◌, ◌*◌, ◌-◌, ◌/◌, ◌%◌, ◌≤◌, ◌<◌, max}
 use native.Mathlib.Omega.{arith}
 use lib.Dec.{ltb}
 use lib.ListN.{length, set, length-set}
@@ -22,7 +24,7 @@ use Rattle.matching.proofs.Alls.{all_map, all_mem}
 use Rattle.matching.proofs.Where.{Rises, where_below, where_rises}
 use Rattle.matching.proofs.Reached.{reached_own}
 use Rattle.grouping.specs.Labels.{Labels, class, Levelled}
-use Rattle.grouping.specs.Finding.{words_in, label_in, link_in, FrontKept, Leads, from, LinkThere, Linked}
+use Rattle.grouping.specs.Finding.{words_in, label_in, link_in, named, FrontKept, Leads, from, LinkThere, Linked}
 use Rattle.grouping.proofs.Labelling.{front_none, front_set, front_all}
 use Rattle.grouping.proofs.Classes.{class_in, class_out, class_cells, named_own}
 
@@ -84,6 +86,15 @@ pub leads_kept : (f g : ℕ → ℕ) (p : ℕ) (xs : List ℕ) → All (λ x. f 
 leads_kept f g p [] k h = h
 leads_kept f g p (x ∷ xs) k h = (h.0, leads_kept f g (g x) xs k.1 (rw k.0 at h.1))
 
+-- the cell that a label or a link names
+pub named_none : (x : ℕ) → named x ≡ None → x ≡ 0
+named_none zero e = refl
+named_none (suc d) e = cc
+
+pub named_some : (x d : ℕ) → named x ≡ Some d → x ≡ suc d
+named_some zero d e = cc
+named_some (suc c) d e = cc
+
 -- ---- one cell more
 
 -- a cell that does not name a cell below it is in no links
@@ -120,11 +131,11 @@ module _ {n : ℕ} {l : Labels} {c : ℕ} {w2 : List ℕ} (h : LinkThere n l (su
   }
 
   -- no pairs, or the first cell
-  pub link_none : label_in w2 c ≡ 0 → Linked n l c w2 w2
-  link_none e = link_idle (λ d b q. omega (arith, h.labels c h.within, e, q))
+  pub link_none : named (label_in w2 c) ≡ None → Linked n l c w2 w2
+  link_none e = link_idle (λ d b q. omega (arith, h.labels c h.within, named_none _ e, q))
 
-  pub link_own : label_in w2 c - 1 ≡ c → Linked n l c w2 w2
-  link_own e = link_idle (λ d b q. omega (arith, h.labels c h.within, e, q))
+  pub link_own : {d : ℕ} → named (label_in w2 c) ≡ Some d → d ≡ c → Linked n l c w2 w2
+  link_own e z = link_idle (λ d b q. omega (arith, h.labels c h.within, named_some _ _ e, z, q))
 
   -- put behind the first cell d, whose word is now u; its own is v
   module _ (d : ℕ) (b : d < c) (e : l c ≡ suc d) (u v : ℕ) where
@@ -239,32 +250,13 @@ module _ {n : ℕ} {l : Labels} {c : ℕ} {w2 : List ℕ} (h : LinkThere n l (su
           long : length (put_behind w2 c v d u) ≡ length w2
           long = kept.long
 
-  -- the first cell's link is small and its word is there
-  pub link_small : link_in w2 (label_in w2 c - 1) ≤ 1024
-  link_small = h.small (label_in w2 c - 1) (omega (arith, h.labels c h.within, h.low c h.within, h.within))
-
-  pub link_index : at_labels + (label_in w2 c - 1)
-      < length (set w2 (at_labels + c) (label_in w2 c + link_in w2 (label_in w2 c - 1) * link_field))
-  link_index =
-      omega (
-        arith,
-        h.room,
-        length-set w2 (at_labels + c) (label_in w2 c + link_in w2 (label_in w2 c - 1) * link_field),
-        h.labels c h.within,
-        h.low c h.within,
-        h.within,
-        h.cells,
-      )
-
-  pub link_put : label_in w2 c ≢ 0 → label_in w2 c - 1 ≢ c
+  pub link_put : {d : ℕ} → named (label_in w2 c) ≡ Some d → d ≢ c
       → Linked n l c w2
-      (put_behind w2 c (label_in w2 c + link_in w2 (label_in w2 c - 1) * link_field) (label_in w2 c - 1)
-      (label_in w2 c + (c + 1) * link_field))
-  link_put z f =
+      (put_behind w2 c (d + 1 + link_in w2 d * link_field) d (d + 1 + (c + 1) * link_field))
+  link_put {d} e f =
       let q = h.labels c h.within in
-      let s : label_in w2 c ≡ suc (label_in w2 c - 1) = omega (arith, z) in
-      link_behind (label_in w2 c - 1) (omega (arith, q, h.low c h.within, f, s)) (sym q ∙ s) _ _
-      (ap (λ k. k + link_in w2 (label_in w2 c - 1) * link_field) s) (ap (λ k. k + (c + 1) * link_field) s)
+      let s = named_some _ d e in
+      link_behind d (omega (arith, q, h.low c h.within, f, s)) (sym q ∙ s) _ _ (omega arith) (omega arith)
 
 -- ---- cell by cell
 
@@ -272,9 +264,6 @@ module _ {n : ℕ} {l : Labels} {c : ℕ} {w2 : List ℕ} (h : LinkThere n l (su
 pub record Linking (n c : ℕ) (w2 w2' : List ℕ) : Type 0 where
   pub front : FrontKept w2 w2'
   pub there : (l : Labels) → LinkThere n l n w2 → LinkThere n l c w2'
-
-pub linking_first : {n : ℕ} {w2 : List ℕ} → Linking n n w2 w2
-linking_first = record { front = front_none; there = λ l h. h }
 
 module _ {n c : ℕ} {w2 w2' : List ℕ} (s : Linking n c w2 w2') where
   pub linking_there : 0 < c → {l : Labels} → LinkThere n l n w2 → LinkThere n l (suc (c - 1)) w2'

@@ -1,14 +1,14 @@
 -- Sweeps over the pairs that stand as rows and cells. In order: the pairs from a row on (`rows_next`); a sweep that is
--- at row i (`Sweeping`): at first, at a pair that is split and at one that is not, at the end; the sweeps until no pair
--- is split (`Levelling`): at first, after one that met a split pair, at the end. Assumes nothing.
+-- at row i (`Sweeping`), at a pair that is split and at one that is not; the sweeps until no pair is split
+-- (`Levelling`): at first, after one that met a split pair, after the last. Assumes nothing.
 use mathlib.Core.Path.{◌≡◌, refl, sym, ap, subst, ◌∙◌}
 use mathlib.Core.Logic.{◌≢◌}
-use mathlib.Core.Bool.{Bool, true, false, not, ◌||◌, false≢true, or-false}
-use mathlib.Core.List.{List, [], ◌∷◌}
+use mathlib.Core.Bool.{Bool, true, false, not, ◌||◌, false≢true}
+use mathlib.Core.List.{List, ◌∷◌}
 use Prim.Native.Nat.{ℕ, suc, ◌+◌, ◌/◌, ◌≤◌, ◌<◌, min}
 use native.Mathlib.Omega.{arith}
 use native.Mathlib.Numerals.{add-one}
-use lib.ListN.{length, get_or, set, drop, drop_of_length-le}
+use lib.ListN.{length, get_or, set, drop}
 use lib.Seq.{drop-cons}
 use borrow.Author.Tests.{eq-eqb, ne_eqb, not-true, not-false}
 use Rattle.buffers.specs.Map.{unit, at_cells, at_labels}
@@ -19,7 +19,7 @@ use Rattle.matching.proofs.Tests.{Test, holds, not_test}
 use Rattle.matching.proofs.Members.{or_right}
 use Rattle.cellfile.specs.Words.{no_entry, RowsOf, OfRows}
 use Rattle.grouping.specs.Labels.{lowered, swept, meets, pairs_in, Labelled, Level}
-use Rattle.grouping.specs.Finding.{words_in, FrontKept, PairsThere, Sweeps, LevelThere, Levels}
+use Rattle.grouping.specs.Finding.{words_in, FrontKept, Sweeps, LevelThere, Levels}
 use Rattle.grouping.proofs.Sweeps.{short_lists, table_lowered, lowered_level, swept_still, own_labelled}
 use Rattle.grouping.proofs.Sweeps.{swept_labelled}
 use Rattle.grouping.proofs.Classes.{meets_test}
@@ -42,9 +42,6 @@ rows_next {es} {r} {w1} i h l =
     high : higher w1 i ≡ (get_or es i no_entry).1
     high = omega (arith, h.row i l, h.points i l)
 
-rows_end : {es : List Entry} {r : ℕ} {w1 : List ℕ} (i : ℕ) → RowsOf es r w1 → r ≤ i → pairs_in (drop i es) ≡ []
-rows_end {es} i h l = ap pairs_in (drop_of_length-le es {i = i} (omega (arith, h.count)))
-
 -- ---- a sweep
 
 -- The sweep is at row i: the pairs from there on lead to its labels, and a split pair was met, or will be, just where
@@ -53,9 +50,6 @@ pub record Sweeping (r i : ℕ) (w1 w2 w2' : List ℕ) (met : Bool) : Type 0 whe
   pub front : FrontKept w2 w2'
   pub labels : OfRows r w1 (λ es. swept (pairs_in (drop i es)) (words_in w2') ≡ swept (pairs_in es) (words_in w2))
   pub meets : OfRows r w1 (λ es. met || meets (pairs_in (drop i es)) (words_in w2') ≡ meets (pairs_in es) (words_in w2))
-
-pub sweep_first : {r : ℕ} {w1 w2 : List ℕ} → Sweeping r 0 w1 w2 w2 false
-sweep_first = record { front = front_none; labels = λ es h. refl; meets = λ es h. refl }
 
 module _ {r i : ℕ} {w1 w2 w2' : List ℕ} {met : Bool} (s : Sweeping r i w1 w2 w2' met) where
   pub sweep_split : i < r → 8192 ≤ length w2' → lower w1 i < 1024 → higher w1 i < 1024
@@ -93,13 +87,6 @@ module _ {r i : ℕ} {w1 w2 w2' : List ℕ} {met : Bool} (s : Sweeping r i w1 w2
           ≡ meets (pairs_in (drop (i + 1) es)) (words_in w2')
       gone es = rw (level, eq-eqb (words_in w2' (lower w1 i)) (words_in w2' (higher w1 i)) q)
 
-  pub sweep_last : r ≤ i → Sweeps r w1 w2 w2' met
-  sweep_last l = record {
-    labels = λ es h. rw (rows_end i h l) at (s.labels es h);
-    meets = λ es h. sym (or-false met) ∙ rw (rows_end i h l) at (s.meets es h);
-    front = s.front;
-  }
-
 -- ---- the sweeps
 
 -- k sweeps, of which each met a split pair.
@@ -118,14 +105,6 @@ level_first = record {
 }
 
 module _ {r k : ℕ} {w1 w2 w2' : List ℕ} (s : Levelling r k w1 w2 w2') where
-  pub level_there : {n : ℕ} {w : Points} → LevelThere n w r w1 w2 → PairsThere r w1 w2'
-  level_there t = record {
-    room1 = t.there.room1;
-    room2 = omega (arith, t.there.room2, s.front.long);
-    most = t.there.most;
-    cells = t.there.cells;
-  }
-
   module _ {w2'' : List ℕ} {met : Bool} (p : Sweeps r w1 w2' w2'' met) where
     tells : {n : ℕ} {w : Points} → LevelThere n w r w1 w2
         → Test (suc k < largest n w) (Level w (words_in w2')) met
@@ -158,10 +137,3 @@ module _ {r k : ℕ} {w1 w2 w2' : List ℕ} (s : Levelling r k w1 w2 w2') where
             p.labels (short_list n w) t.rows
             ∙ swept_still (pairs_in (short_list n w)) (words_in w2')
             (sym (p.meets (short_list n w) t.rows) ∙ not-true met e)
-
-  pub level_crowded : 12 ≤ k → (n : ℕ) (w : Points) → LevelThere n w r w1 w2 → Levels n w w2 w2' false
-  level_crowded l n w t = record {
-    crowded = λ q. omega (arith, s.most, s.crowded n w t (omega arith));
-    level = λ q. absurd (false≢true q);
-    front = s.front;
-  }

@@ -1,7 +1,7 @@
 -- The labels of the cells in the second buffer, and the links of the cells of a group. Inner contracts cite this; laws:
 -- proofs/Labelling, Sweeping and Links.
-use Rattle.std.specs.Prelude.{◌≡◌, Bool, true, false, cond, List, [], ◌∷◌, ℕ, suc, ◌+◌, ◌/◌, ◌%◌, ◌≤◌, ◌<◌}
-use Rattle.std.specs.Prelude.{max, ltb, length, get_or}
+use Rattle.std.specs.Prelude.{◌≡◌, Bool, true, false, cond, List, [], ◌∷◌, Option, None, Some, ℕ, zero, suc, ◌+◌}
+use Rattle.std.specs.Prelude.{◌/◌, ◌%◌, ◌≤◌, ◌<◌, max, ltb, length, get_or}
 use Rattle.buffers.specs.Map.{unit, at_cells, at_labels, link_field}
 use Rattle.matching.specs.Pairs.{Points}
 use Rattle.matching.specs.Listed.{short_list}
@@ -19,6 +19,11 @@ label_in w2 c = words_in w2 c % link_field
 
 abbrev pub link_in : List ℕ → ℕ → ℕ
 link_in w2 c = words_in w2 c / link_field
+
+-- The cell that a label or a link names: its number and 1, or 0 where there is none.
+abbrev pub named : ℕ → Option ℕ
+named zero = None
+named (suc c) = Some c
 
 -- Words below the labels did not change.
 pub record FrontKept (w2 w2' : List ℕ) : Type 0 where

@@ -1,15 +1,16 @@
 // Inner, for solving: the connected groups of the cells left, by labels. See specs/Labels and specs/Finding.
 #![tactic(auto)]
 
-ghost use Rattle.std.specs.Prelude.{◌≡◌, cond, ℕ, suc, ◌<◌, ◌≤◌, min, ltb};
+ghost use Rattle.std.specs.Prelude.{◌≡◌, cond, ℕ, suc, ◌+◌, ◌<◌, ◌≤◌, ltb, length};
 ghost use Rattle.matching.specs.Pairs.{Points};
 ghost use Rattle.matching.specs.Graph.{Graph};
-ghost use Rattle.slots.specs.Slots.{Holds, graph_of};
+ghost use Rattle.slots.specs.Working.{graph_in, WordsSet};
 ghost use Rattle.grouping.specs.Labels.{Labels};
-ghost use Rattle.grouping.specs.Finding.{OwnIn, PairsThere, Sweeps, LevelThere, Levels, LinkThere, Linked};
+ghost use Rattle.grouping.specs.Finding.{label_in, link_in, named, OwnIn, PairsThere, Sweeps, LevelThere, Levels};
+ghost use Rattle.grouping.specs.Finding.{LinkThere, Linked};
 
 use buffers::map::{CELL_WORDS, LABELS, LINK_FIELD, POINTS_UNIT};
-use slots::read;
+use slots::graph::WorkingGraph;
 
 // So many sweeps are enough where no group has more than 12 cells.
 const SWEEPS: usize = 12;
@@ -19,33 +20,18 @@ fn own_label(c: usize, pairs: u64) -> u64
     requires { c < 1024 }
     ensures { result ≡ cond (ltb 0 pairs) (suc c) 0 }
 {
-    if pairs == 0 {
-        return 0;
-    }
-    c as u64 + 1
+    if pairs == 0 { 0 } else { c as u64 + 1 }
 }
 
-// Each cell gets its first label, for the graph of n cells in e slots.
-pub fn own_labels(w1: &[u64], w2: &mut [u64], e: usize, n: usize)
-    requires { (Holds e w1.now w2.old) × (n ≤ 1024) × Graph n (graph_of e w1.now) }
-    ensures { OwnIn n (graph_of e w1.now) w2.old w2.new }
+// Each cell gets its first label, for the graph of n cells.
+pub fn own_labels(graph: &mut WorkingGraph, n: usize)
+    requires { (n ≤ 1024) × Graph n (graph_in graph.old) }
+    ensures { OwnIn n (graph_in graph.old) graph.old.w2.now graph.new.w2.now × WordsSet graph.old graph.new }
 {
-    let mut c = 0;
-    while c < n {
-        let pairs = read::degree(w1, w2, e, c);
-        w2[LABELS + c] = own_label(c, pairs);
-        c += 1;
+    for c in 0..n {
+        let pairs = graph.degree(c);
+        graph.set_word(LABELS + c, own_label(c, pairs));
     }
-}
-
-// The smaller of two labels.
-fn smaller(x: u64, y: u64) -> u64
-    ensures { result ≡ min x y }
-{
-    if x < y {
-        return x;
-    }
-    y
 }
 
 // A sweep over the r pairs that stand as rows and cells, each of which gives both its ends the smaller label: whether
@@ -55,15 +41,13 @@ fn sweep(w1: &[u64], w2: &mut [u64], r: usize) -> bool
     ensures { Sweeps r w1.now w2.old w2.new result }
 {
     let mut met = false;
-    let mut i = 0;
-    while i < r {
+    for i in 0..r {
         let a = w1[CELL_WORDS + i] as usize;
         let b = (w1[i] / POINTS_UNIT) as usize;
         let x = w2[LABELS + a];
         let y = w2[LABELS + b];
-        i += 1;
         if x != y {
-            let low = smaller(x, y);
+            let low = x.min(y);
             w2[LABELS + a] = low;
             w2[LABELS + b] = low;
             met = true;
@@ -78,14 +62,32 @@ pub fn level(w1: &[u64], w2: &mut [u64], r: usize) -> bool
     ensures { (n : ℕ) (w : Points) → LevelThere n w r w1.now w2.old
         → Levels n w w2.old w2.new result }
 {
-    let mut k = 0;
-    while k < SWEEPS {
-        k += 1;
+    for _ in 0..SWEEPS {
         if !sweep(w1, w2, r) {
             return true;
         }
     }
     false
+}
+
+// The first cell of the group of the cell c, which the label of c names; none where c has no pairs.
+pub fn first(w2: &[u64], c: usize) -> Option<usize>
+    requires { LABELS + c < length w2.now }
+    ensures { result ≡ named (label_in w2.now c) }
+{
+    (w2[LABELS + c] % LINK_FIELD)
+        .checked_sub(1)
+        .map(|d| d as usize)
+}
+
+// The next cell of its group, which the link of the cell c names; none where c is the last.
+pub fn next(w2: &[u64], c: usize) -> Option<usize>
+    requires { LABELS + c < length w2.now }
+    ensures { result ≡ named (link_in w2.now c) }
+{
+    (w2[LABELS + c] / LINK_FIELD)
+        .checked_sub(1)
+        .map(|d| d as usize)
 }
 
 // The cell c is put into the links of its group, behind the first cell; or it is the first, or has no pairs.
@@ -94,17 +96,16 @@ fn link_cell(w2: &mut [u64], c: usize)
     ensures { (n : ℕ) (l : Labels) → LinkThere n l (suc c) w2.old
         → Linked n l c w2.old w2.new }
 {
-    let label = w2[LABELS + c] % LINK_FIELD;
-    if label == 0 {
+    let Some(d) = first(w2, c) else {
+        return;
+    };
+    if d == c {
         return;
     }
-    let first = (label - 1) as usize;
-    if first == c {
-        return;
-    }
-    let word = w2[LABELS + first];
+    let label = d as u64 + 1;
+    let word = w2[LABELS + d];
     w2[LABELS + c] = label + word / LINK_FIELD * LINK_FIELD;
-    w2[LABELS + first] = label + (c as u64 + 1) * LINK_FIELD;
+    w2[LABELS + d] = label + (c as u64 + 1) * LINK_FIELD;
 }
 
 // Links the cells of each group, ascending, from its first cell on.
@@ -113,9 +114,7 @@ pub fn link(w2: &mut [u64], n: usize)
     ensures { (l : Labels) → LinkThere n l n w2.old
         → Linked n l 0 w2.old w2.new }
 {
-    let mut c = n;
-    while 0 < c {
-        c -= 1;
+    for c in (0..n).rev() {
         link_cell(w2, c);
     }
 }

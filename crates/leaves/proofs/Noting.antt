@@ -1,19 +1,21 @@
 -- The words of a run. In order: a part of a buffer that is filled word by word (`part_start`, `part_on`), the trail and
 -- the names so far (`Words`): how they start (`words_start`), a step more (`words_on`), and that words aside do not
--- change them (`words_kept`); the trail of leaf steps (`trail_leaves`). Assumes nothing.
+-- change them (`names_kept`, `words_kept`); the trail of leaf steps (`trail_leaves`). Assumes nothing.
 use mathlib.Core.Path.{◌≡◌, refl, sym, ap, ◌∙◌}
 use mathlib.Core.Logic.{inl, inr}
 use mathlib.Core.List.{List, [], ◌∷◌, ◌++◌, map, map-append, append-nil, append_assoc}
 use Prim.Native.Nat.{ℕ, suc, ◌+◌, ◌≤◌, ◌<◌}
 use native.Mathlib.Omega.{arith}
-use lib.ListN.{length, set, take, drop, length-append, length-drop}
-use lib.Seq.{take-set-le, take-suc-set, drop-set-lt, drop-set-add}
+use lib.ListN.{length, get_or, set, take, drop, length-append, length-drop}
+use lib.Seq.{take-set-le, take-suc-set, drop-set-lt, drop-set-add, length-take-le, get_or-take, get_or-drop, ext_get_or}
 use Rattle.buffers.specs.Map.{trail_room, at_names}
 use Rattle.matching.specs.Pairs.{Points}
 use Rattle.matching.specs.Steps.{leaf, apply}
 use Rattle.slots.specs.Slots.{Aside}
 use Rattle.trail.specs.Trail.{closing, step_words, trail}
-use Rattle.buffers.proofs.Same.{take_same, drop_same}
+use Rattle.slots.proofs.Holding.{holds_room}
+use Rattle.slots.specs.declared.graph.WorkingGraph.{WorkingGraph}
+use Rattle.trail.proofs.TakenRow.{trail_kept}
 use Rattle.leaves.specs.Runs.{leaves_at, Words, leaf_words}
 
 -- ---- a part that is filled
@@ -31,6 +33,21 @@ module _ (f : ℕ → ℕ) (s : ℕ) (w : List ℕ) where
       ∙ ap (λ ys. ys ++ f v ∷ []) h
       ∙ append_assoc (take s w) (map f xs) (f v ∷ [])
       ∙ ap (λ ys. take s w ++ ys) (sym (map-append f xs (v ∷ [])))
+
+-- the names in two graphs
+pub names_kept : (g g' : WorkingGraph) (k : ℕ) → k ≤ 1024
+    → ((j : ℕ) → at_names ≤ j → get_or g'.w2.now j 0 ≡ get_or g.w2.now j 0)
+    → take k (drop at_names g'.w2.now) ≡ take k (drop at_names g.w2.now)
+names_kept g g' k m h =
+    let now = length-take-le k (drop at_names g'.w2.now)
+    (omega (arith, holds_room g'.holds, length-drop at_names g'.w2.now)) in
+    let was = length-take-le k (drop at_names g.w2.now)
+    (omega (arith, holds_room g.holds, length-drop at_names g.w2.now)) in
+    ext_get_or 0 (take k (drop at_names g'.w2.now)) (take k (drop at_names g.w2.now)) (now ∙ sym was)
+    (λ i l. (let b : i < k = omega (arith, now) in
+    get_or-take k (drop at_names g'.w2.now) i 0 b ∙ get_or-drop at_names g'.w2.now i 0
+    ∙ h (at_names + i) (omega arith)
+    ∙ sym (get_or-take k (drop at_names g.w2.now) i 0 b ∙ get_or-drop at_names g.w2.now i 0)))
 
 -- ---- the trail and the names
 
@@ -60,11 +77,12 @@ module _ {t k u : ℕ} {cells w2 w2' : List ℕ} (h : Words t k u cells w2 w2') 
   }
 
 -- words aside of these
-pub words_kept : {t k u : ℕ} {cells w2 w2' w2'' : List ℕ} → Words t k u cells w2 w2' → Aside w2' w2''
-    → length w2'' ≡ length w2' → 8192 ≤ length w2' → t + length cells ≤ trail_room → Words t k u cells w2 w2''
-words_kept {t} {k} {u} {cells} {w2} {w2'} {w2''} h a l room tr = record {
-  trail = take_same w2' w2'' (t + length cells) l (omega arith) (λ j m. a j (inl (omega arith))) ∙ h.trail;
-  names = ap (take (k + length cells)) (drop_same w2' w2'' at_names l (λ j m. a j (inr m))) ∙ h.names;
+pub words_kept : {t k u : ℕ} {cells w2 : List ℕ} (g g' : WorkingGraph) → Words t k u cells w2 g.w2.now
+    → Aside g.w2.now g'.w2.now → t + length cells ≤ trail_room → k + length cells ≤ 1024
+    → Words t k u cells w2 g'.w2.now
+words_kept {t} {k} {u} {cells} {w2} g g' h a tr nr = record {
+  trail = trail_kept g g' (t + length cells) tr (λ j m. a j (inl m)) ∙ h.trail;
+  names = names_kept g g' (k + length cells) nr (λ j m. a j (inr m)) ∙ h.names;
 }
 
 -- the trail of leaf steps

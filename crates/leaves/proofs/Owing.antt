@@ -1,8 +1,7 @@
--- A run of leaf steps at u while the graph stays as it is. In order: a cell more without a leaf (`quiet_on`); a graph
--- whose pairs at u have lost p (`less_zero`, `less_with`, `less_else`, `less_graph`), its degrees (`degree_kept`,
--- `degree_gone`, `hub_two`), and the leaf step on it (`less_leaf`); a run so far (`Owing`): how it starts
--- (`owing_start`), passes a cell (`owing_pass`) and takes a step (`owing_take`); where no leaf is (`owing_quiet`).
--- Assumes nothing.
+-- A run of leaf steps at u while the graph stays as it is. In order: a graph whose pairs at u have lost p (`less_zero`,
+-- `less_with`, `less_else`, `less_graph`), its degrees (`degree_kept`, `degree_gone`, `hub_two`), and the leaf step on
+-- it (`less_leaf`); a run so far (`Owing`): how it starts (`owing_start`), passes a leaf of u (`owing_gone`) and takes
+-- a step (`owing_take`); where no leaf is (`owing_quiet`). Assumes nothing.
 use mathlib.Core.Path.{◌≡◌, refl, sym, ap, ap₂, subst, ◌∙◌, fun_ext}
 use mathlib.Core.Logic.{◌⊎◌, inl, inr, ◌≢◌}
 use mathlib.Core.Bool.{Bool, true, false, cond}
@@ -31,16 +30,7 @@ use Rattle.matching.proofs.Behind.{left_append, carried_append}
 use Rattle.slots.specs.Slots.{less_all}
 use Rattle.slots.proofs.Leaving.{only_pair}
 use Rattle.finding.specs.Finding.{Quiet}
-use Rattle.leaves.specs.Runs.{Slack, Due, leaves_at}
-
--- ---- where no leaf is
-
-pub quiet_on : (w : Points) (c : ℕ) → Quiet c w → degree 1024 w c ≢ 1 → Quiet (c + 1) w
-quiet_on w c q d x l = go (eq_test x c)
-  where
-    go : {t : Bool} → Test (x ≡ c) (x ≢ c) t → degree 1024 w x ≢ 1
-    go (pass e) = rw e d
-    go (fail n) = q x (omega arith)
+use Rattle.leaves.specs.Runs.{Slack, LeafOf, leaves_at}
 
 -- ---- the pairs at u have lost p
 
@@ -168,14 +158,14 @@ module _ {w : Points} (g : Graph 1024 w) (u p : ℕ) where
 
 -- At the cell c: the steps are those of reduce, the pairs at u are to lose p, and each leaf below c is one of u whose
 -- pair is gone then.
-pub record Owing (n : ℕ) (w : Points) (u room c p : ℕ) (cells : List ℕ) : Type 0 where
+pub record Owing (n : ℕ) (w : Points) (u bound c p : ℕ) (cells : List ℕ) : Type 0 where
   pub first : reduce (length cells) n w ≡ leaves_at u cells
   pub graph : less_all u p w ≡ left w (leaves_at u cells)
   pub carries : p ≡ carried w (leaves_at u cells)
-  pub short : (p ≡ 0) ⊎ (p < room)
+  pub short : (p ≡ 0) ⊎ (p < bound)
   pub below : (x : ℕ) → x < c → x ≢ u → degree 1024 w x ≡ 1 → (0 < w x u) × (w x u ≤ p)
 
-pub owing_start : {n : ℕ} {w : Points} {u room c : ℕ} → Quiet c w → Owing n w u room c 0 []
+pub owing_start : {n : ℕ} {w : Points} {u bound c : ℕ} → Quiet c w → Owing n w u bound c 0 []
 owing_start {n} {w} {u} q = record {
   first = refl;
   graph = less_zero u w;
@@ -184,8 +174,8 @@ owing_start {n} {w} {u} q = record {
   below = λ x l nx one. absurd (q x l one);
 }
 
-module _ {n : ℕ} {w : Points} (g : Graph n w) (le : n ≤ 1024) {u room : ℕ} (s : Slack w u room) {c p : ℕ}
-    {cells : List ℕ} (o : Owing n w u room c p cells) where
+module _ {n : ℕ} {w : Points} (g : Graph n w) (le : n ≤ 1024) {u bound : ℕ} (s : Slack w u bound) {c p : ℕ}
+    {cells : List ℕ} (o : Owing n w u bound c p cells) where
   abbrev g' : Graph 1024 w
   g' = graph_to g 1024 le
 
@@ -195,7 +185,7 @@ module _ {n : ℕ} {w : Points} (g : Graph n w) (le : n ≤ 1024) {u room : ℕ}
   pub owing_quiet : (x : ℕ) → x < c → x ≢ u → degree 1024 (less_all u p w) x ≢ 1
   owing_quiet x l nx = go (eq_test (degree 1024 w x) 1)
     where
-      kept : degree 1024 w x ≢ 1 → (p ≡ 0) ⊎ (p < room) → 0 < w x u → p < w x u
+      kept : degree 1024 w x ≢ 1 → (p ≡ 0) ⊎ (p < bound) → 0 < w x u → p < w x u
       kept d (inl z) k = omega arith
       kept d (inr z) k = omega (arith, s.others x (omega (arith, g.turned x u)) d, g.turned x u)
 
@@ -205,9 +195,10 @@ module _ {n : ℕ} {w : Points} (g : Graph n w) (le : n ≤ 1024) {u room : ℕ}
           degree_gone g' u p x nx (partners_one g' x u one b.0) b.1
       go (fail d) = λ q. d (sym (ap length (degree_kept g' u p x nx (kept d o.short))) ∙ q)
 
-  module _ {r : ℕ} (due : Due w u c r) (few : r < room) where
-    pub owing_pass : r ≤ p → Owing n w u room (c + 1) p cells
-    owing_pass l = record {
+  module _ {r : ℕ} (alone : LeafOf w u c r) where
+    -- a leaf of u whose pair is gone
+    pub owing_gone : r ≤ p → Owing n w u bound (c + 1) p cells
+    owing_gone l = record {
       first = o.first;
       graph = o.graph;
       carries = o.carries;
@@ -215,28 +206,15 @@ module _ {n : ℕ} {w : Points} (g : Graph n w) (le : n ≤ 1024) {u room : ℕ}
       below = λ x k nx. at x k nx (eq_test x c);
     }
       where
-        here : Due w u c r → degree 1024 w c ≡ 1 → (0 < w c u) × (w c u ≤ p)
-        here (inl (d, z)) one = absurd (d one)
-        here (inr (inl (ps, q))) one = (
-          partner_of g' c u (rw ps (mem_head u u [] refl)),
-          omega (arith, g.turned c u),
-        )
-        here (inr (inr q)) one = absurd (omega (arith, s.top))
-
         at : (x : ℕ) → x < c + 1 → x ≢ u → {t : Bool} → Test (x ≡ c) (x ≢ c) t → degree 1024 w x ≡ 1
             → (0 < w x u) × (w x u ≤ p)
-        at x k nx (pass q) = rw q (here due)
-        at x k nx (fail d) = o.below x (omega arith) nx
+        at x k nx (pass q) one = rw q (
+          partner_of g' c u (rw alone.0 (mem_head u u [] refl)),
+          omega (arith, g.turned c u, alone.1),
+        )
+        at x k nx (fail d) one = o.below x (omega arith) nx one
 
-    module _ (l : p < r) where
-      alone : (partners 1024 w c ≡ u ∷ []) × (r ≡ w u c)
-      alone = go due
-        where
-          go : Due w u c r → (partners 1024 w c ≡ u ∷ []) × (r ≡ w u c)
-          go (inl (d, z)) = absurd (omega arith)
-          go (inr (inl q)) = q
-          go (inr (inr q)) = absurd (omega (arith, s.top))
-
+    module _ (few : r < bound) (l : p < r) where
       points : p < w c u
       points = omega (arith, alone.1, g.turned c u)
 
@@ -268,7 +246,7 @@ module _ {n : ℕ} {w : Points} (g : Graph n w) (le : n ≤ 1024) {u room : ℕ}
       now_first : first_step_of n (left w (leaves_at u cells)) ≡ some (leaf u c)
       now_first = rw (← o.graph) (first_leaf (less_graph u p w g) u c now_leaf now_quiet)
 
-      pub owing_take : Owing n w u room (c + 1) r (cells ++ c ∷ [])
+      pub owing_take : Owing n w u bound (c + 1) r (cells ++ c ∷ [])
       owing_take = record {
         first =
             ap (λ i. reduce i n w)

@@ -1,113 +1,96 @@
 -- Lift. In order: refusal 10 of a pairing (`ten_refused`), and the pairing in the table with the trail (`ten_there`,
--- `ten_passed`); refusal 9 (`nine_refused`), and the pairing with what the steps leave (`nine_there`, `nine_passed`);
+-- `ten_passed`); refusal 9 (`nine_refused`, `nine_passed`);
 -- the first part of the call leaves a trail (`start_there`), and what is brought back over it is what lift is to write
 -- (`lift_passed`). Assumes nothing.
 use mathlib.Core.Path.{◌≡◌, refl, sym, ap, subst, ◌∙◌}
-use mathlib.Core.Bool.{Bool, true, false, cond}
+use mathlib.Core.Bool.{Bool}
 use mathlib.Core.List.{List, [], ◌∷◌, ◌++◌, map}
 use mathlib.Core.Option.{Option, some, none}
 use Prim.Native.Nat.{ℕ}
 use native.Mathlib.Omega.{arith}
-use lib.ListN.{length, get_or}
+use lib.ListN.{length}
 use borrow.Author.Tests.{not-false}
 use Rattle.matching.specs.Pairs.{Points}
 use Rattle.matching.specs.Pairing.{Pairing, is_pairing}
 use Rattle.matching.specs.Steps.{Rule, Step, name}
 use Rattle.matching.specs.Slip.{replay}
+use Rattle.matching.specs.Origin.{all_short}
 use Rattle.matching.proofs.Pairing.{is_pairing_is}
 use Rattle.matching.proofs.Reduce.{replay_fits}
-use Rattle.cellfile.specs.Files.{cells_of, count_of, steps_of, pairs_of, as_name}
-use Rattle.checks.specs.Refusals.{Row, first, no_pairing}
-use Rattle.cellfile.specs.Answers.{Answer, answer}
+use Rattle.cellfile.specs.Files.{cells_of, steps_of, pairs_of, as_name}
+use Rattle.checks.specs.Refusals.{Row, first}
+use Rattle.cellfile.specs.Answers.{Answer}
 use Rattle.checks.proofs.Rows.{first_none}
-use Rattle.checks.proofs.Layers.{answer_accepted}
 use Rattle.slots.specs.Slots.{graph_of}
 use Rattle.starting.specs.Steps.{graph_in, steps_on, slip_rows}
-use Rattle.checks.specs.Calls.{call_rows, form_row, hold_row}
+use Rattle.checks.specs.Calls.{number, call_rows, form_row, hold_row}
+use Rattle.checks.specs.declared.Refusal.{Refusal}
 use Rattle.checks.specs.Answering.{Does}
 use Rattle.starting.specs.Starting.{StartDone}
+use Rattle.starting.specs.declared.Started.{Started}
 use Rattle.checks.proofs.Answering.{refused, passed}
 use Rattle.starting.proofs.OnList.{list_graph}
 use Rattle.lifting.specs.Calls.{lift_rows, lift_file, lift_origins, lifted_file, lifted_origins}
 use Rattle.lifting.specs.Calls.{graph_after}
-use Rattle.partners.specs.Table.{Entered}
+use Rattle.partners.specs.Table.{Mates}
+use Rattle.std.specs.Prelude.{Ok}
 use Rattle.lifting.specs.Ending.{Change, back_to, ReturnThere, Returns}
 use Rattle.lifting.specs.Tail.{after, TailThere}
-use Rattle.lifting.specs.Lifting.{back_files, PairingThere, LiftsPairing, LiftsTail}
+use Rattle.lifting.specs.Lifting.{back_files, Enters, LiftsTail}
 use Rattle.lifting.proofs.After.{return_there, tail_there}
 
 -- ---- refusal 10
 
-module _ {n e t count : ℕ} {pairing : List ℕ} {k : ℕ} {w1 w2 : List ℕ}
-    (h : PairingThere n e t count pairing k w1 w2)
-    {v2 : List ℕ} {b : Bool} (there : Entered (graph_of e w1) pairing w2 v2 b) where
+module _ {n e t count : ℕ} {w1 w2 : List ℕ} (h : TailThere n e t count w1 w2) (pairing : List ℕ) where
   abbrev left_graph : Points
-  left_graph = after h.tail.on
+  left_graph = after h.on
 
-  by_left : b ≡ no_pairing left_graph (pairs_of pairing)
-  by_left = there.answer ∙ ap (λ (w : Points). no_pairing w (pairs_of pairing)) h.tail.left_is
+  abbrev ten : List Row
+  ten = hold_row left_graph pairing ∷ []
 
-  pub ten_refused : b ≡ true → (out from : List ℕ)
-      → Does (hold_row left_graph pairing ∷ []) (back_files h.tail.on pairing (out, out) (from, from)) (10, [])
-  ten_refused q out from = refused (hold_row left_graph pairing ∷ []) [] 0 [] says (refl, (refl, tt))
-    where
-      says : (10, []) ≡ answer (first (hold_row left_graph pairing ∷ [])) (0 ∷ [])
-      says = ap (λ (x : Bool). answer (cond x 10 0) (0 ∷ [])) (sym q ∙ by_left)
+  -- of what the steps leave
+  held_is : {k : ℕ} → k ≡ first (hold_row (graph_of e w1) pairing ∷ []) → k ≡ first ten
+  held_is q = q ∙ ap (λ (w : Points). first (hold_row w pairing ∷ [])) h.left_is
 
-  module _ (q : b ≡ false) (same : length v2 ≡ length w2) where
-    holds_not : no_pairing left_graph (pairs_of pairing) ≡ false
-    holds_not = sym by_left ∙ q
+  pub ten_refused : (r : Refusal) → number r ≡ first (hold_row (graph_of e w1) pairing ∷ []) → (out from : List ℕ)
+      → Does ten (back_files h.on pairing (out, out) (from, from)) (number r, [])
+  ten_refused r q out from = refused ten [] r (held_is q) (refl, (refl, tt))
 
-    is : Pairing left_graph (pairs_of pairing)
-    is = is_pairing_is left_graph (pairs_of pairing) (not-false (is_pairing left_graph (pairs_of pairing)) holds_not)
+  is : 0 ≡ first ten → Pairing left_graph (pairs_of pairing)
+  is q =
+      is_pairing_is left_graph (pairs_of pairing)
+      (not-false (is_pairing left_graph (pairs_of pairing)) (first_none ten (omega arith, tt) (sym q)).0)
 
-    abbrev entered : ReturnThere n t count w1 v2
+  module _ {file v1 v2 : List ℕ} (f : file ≡ pairing) (x : Enters (graph_of e w1) file w2 v2 (Ok tt)) (front : v1 ≡ w1)
+      (same : length v2 ≡ length w2) where
+    none_holds : 0 ≡ first ten
+    none_holds = held_is (x.refusal ∙ ap (λ (s : List ℕ). first (hold_row (graph_of e w1) s ∷ [])) f)
+
+    abbrev entered : ReturnThere n t count v1 v2
     entered =
-        return_there h.tail.on w1 v2 (pairs_of pairing) h.tail.holds.room1 h.tail.holds.room2 same
-        (λ j l. there.aside j (omega arith)) is (there.mates q)
+        return_there h.on v1 v2 (pairs_of pairing) (omega (arith, h.holds.room1, ap length front)) h.holds.room2 same
+        (λ j l. x.aside j (omega arith)) (is none_holds)
+        (subst (λ (s : List ℕ). Mates v2 all_short (pairs_of s)) f x.mates)
 
-    pub ten_there : ReturnThere n t count w1 v2
+    pub ten_there : ReturnThere n t count v1 v2
     ten_there = entered
 
-    pub ten_passed : {out from : Change} {a : Answer} → Returns n t count w1 v2 out from a
-        → Does (hold_row left_graph pairing ∷ []) (back_files h.tail.on pairing out from) a
-    ten_passed d = passed (hold_row left_graph pairing ∷ []) [] (omega arith, tt) none_holds (d entered)
-      where
-        none_holds : first (hold_row left_graph pairing ∷ []) ≡ 0
-        none_holds = ap (λ (x : Bool). cond x 10 0) holds_not
+    pub ten_passed : {out from : Change} {a : Answer} → Returns n t count v1 v2 out from a
+        → Does ten (back_files h.on pairing out from) a
+    ten_passed d = passed ten [] (omega arith, tt) none_holds (d entered)
 
--- ---- refusal 9
+  -- ---- refusal 9
 
-module _ {n e t count : ℕ} {w1 w2 : List ℕ} (h : TailThere n e t count w1 w2) (pairing : List ℕ) where
-  abbrev rows : List Row
-  rows = form_row n pairing ∷ []
+  abbrev nine : List Row
+  nine = form_row n pairing ∷ []
 
-  pub nine_refused : {k : ℕ} → (k, []) ≡ answer (first rows) (n ∷ count_of pairing ∷ []) → (out from : List ℕ)
-      → Does (form_row n pairing ∷ hold_row (after h.on) pairing ∷ [])
-      (back_files h.on pairing (out, out) (from, from)) (k, [])
-  nine_refused q out from =
-      refused rows (hold_row (after h.on) pairing ∷ []) n (count_of pairing ∷ []) q (refl, (refl, tt))
+  pub nine_refused : (r : Refusal) → number r ≡ first nine → (out from : List ℕ)
+      → Does (form_row n pairing ∷ ten) (back_files h.on pairing (out, out) (from, from)) (number r, [])
+  nine_refused r q out from = refused nine ten r q (refl, (refl, tt))
 
-  module _ {i k : ℕ} (q : (0, i ∷ k ∷ []) ≡ answer (first (form_row n pairing ∷ [])) (n ∷ count_of pairing ∷ [])) where
-    accepted : (first rows ≡ 0) × (i ∷ k ∷ [] ≡ n ∷ count_of pairing ∷ [])
-    accepted = answer_accepted (first rows) (i ∷ k ∷ []) (n ∷ count_of pairing ∷ []) q
-
-    abbrev formed : PairingThere n e t count pairing k w1 w2
-    formed = record {
-      tail = h;
-      file = record {
-        holds = h.holds;
-        formed = (first_none rows (omega arith, tt) accepted.0).0;
-        count = ap (λ vs. get_or vs 1 0) accepted.1;
-      };
-    }
-
-    pub nine_there : PairingThere n e t count pairing k w1 w2
-    nine_there = formed
-
-    pub nine_passed : {out from : Change} {a : Answer} → LiftsPairing n e t count pairing k w1 w2 out from a
-        → Does (form_row n pairing ∷ hold_row (after h.on) pairing ∷ []) (back_files h.on pairing out from) a
-    nine_passed d = passed rows (hold_row (after h.on) pairing ∷ []) (omega arith, tt) accepted.0 (d formed)
+  pub nine_passed : 0 ≡ first nine → {out from : Change} {a : Answer} → Does ten (back_files h.on pairing out from) a
+      → Does (form_row n pairing ∷ ten) (back_files h.on pairing out from) a
+  nine_passed q d = passed nine ten (omega arith, tt) q d
 
 -- ---- the call
 
@@ -122,8 +105,8 @@ Lifts list pairing out from a i o =
     ((elim o [ none ↦ [] | some ss ↦ lifted_file list ss (pairs_of pairing) ], out.0, out.1)
     ∷ (elim o [ none ↦ [] | some ss ↦ lifted_origins list ss (pairs_of pairing) ], from.0, from.1) ∷ []) a
 
-module _ (list slip : List ℕ) {n slots on_trail points steps : ℕ} {w1 w2 : List ℕ}
-    (d : StartDone list (steps_on list (steps_of slip)) n slots on_trail points steps w1 w2) where
+module _ (list slip : List ℕ) {at : Started} {w1 w2 : List ℕ}
+    (d : StartDone list (steps_on list (steps_of slip)) at w1 w2) where
   abbrev names : List (Rule × ℕ)
   names = map as_name (steps_of slip)
 
@@ -133,14 +116,14 @@ module _ (list slip : List ℕ) {n slots on_trail points steps : ℕ} {w1 w2 : L
       (replay_fits (list_graph list d.accepted) names d.taken d.steps_are).2
       ∙ d.steps_are
 
-  abbrev start : TailThere n slots on_trail steps w1 w2
+  abbrev start : TailThere at.n at.slots at.trail at.steps w1 w2
   start = tail_there list d.accepted d.taken stand d.cells d.after
 
-  pub start_there : TailThere n slots on_trail steps w1 w2
+  pub start_there : TailThere at.n at.slots at.trail at.steps w1 w2
   start_there = start
 
-  pub lift_passed : (few : Bool) → first (call_rows few list ++ slip_rows list slip) ≡ 0
-      → (pairing : List ℕ) {out from : Change} {a : Answer} → LiftsTail n slots on_trail steps pairing w1 w2 out from a
+  pub lift_passed : (few : Bool) → 0 ≡ first (call_rows few list ++ slip_rows list slip)
+      → (pairing : List ℕ) {out from : Change} {a : Answer} → LiftsTail at.n at.slots at.trail at.steps pairing w1 w2 out from a
       → Does (call_rows few list ++ lift_rows list slip pairing)
       ((lift_file list slip pairing, out.0, out.1) ∷ (lift_origins list slip pairing, from.0, from.1) ∷ []) a
   lift_passed few z pairing {out} {from} {a} p =

@@ -1,81 +1,67 @@
--- The files that words make. In order: one file refused or written by the output's room (`pairs_refused`,
--- `pairs_written`), and two (`both_first`, `both_second`, `both_written`); the file of the pairs that the words stand
--- for: a pairing (`pairs_file`), an origin list (`origins_file`), in which the steps' numbers have room
+-- The files that words make. In order: the length of one (`words_long`); two refused or written by the outputs' room
+-- (`both_first`, `both_second`, `both_written`); the file of the pairs that the words stand for: a pairing (`pairs_file`), an origin list (`origins_file`), in which the steps' numbers have room
 -- (`origins_eleven`). Assumes nothing.
 use mathlib.Core.Path.{◌≡◌, refl, ap, ◌∙◌}
 use mathlib.Core.List.{List, [], ◌∷◌, map}
-use Prim.Native.Nat.{ℕ, ◌+◌, ◌*◌, ◌-◌, ◌≤◌, ◌<◌}
+use Prim.Native.Nat.{ℕ, ◌≤◌, ◌<◌}
 use native.Mathlib.Omega.{arith}
-use lib.ListN.{length, take, drop, length-drop}
-use lib.Seq.{take_all}
-use Rattle.buffers.specs.Map.{at_origins}
+use lib.ListN.{length, take}
+use lib.Seq.{take-length}
 use Rattle.matching.specs.Pairs.{Pair, Points, Each}
 use Rattle.matching.specs.Steps.{Step, by_leaf, by_ring, by_chain}
 use Rattle.matching.specs.Origin.{Origin, from_short, from_step, Origins, all_short, origins, number_in}
 use Rattle.matching.proofs.Alls.{all_map, each_is_all}
 use Rattle.matching.proofs.Origin.{origins_few}
-use Rattle.cellfile.specs.Files.{pairing as pairing_layout, origin_list, write_file, onto, pair_fields}
+use Rattle.cellfile.specs.Files.{Layout, pairing as pairing_layout, origin_list, file_length, write_file, onto, pair_fields}
 use Rattle.cellfile.specs.Files.{origin_fields, rule_in}
 use Rattle.cellfile.specs.Fits.{FitsFields}
-use Rattle.cellfile.specs.Words.{words_file, pair_word, word_of_origin}
+use Rattle.cellfile.specs.Words.{Plain, file_of, words_file, pair_word, word_of_origin}
 use Rattle.cellfile.proofs.Outputs.{plain_pairing, plain_origins, words_length, records_file}
 use Rattle.checks.specs.Answering.{Output, Does}
-use Rattle.checks.proofs.Answering.{no_room, all_room, one_refused, one_written}
+use Rattle.checks.proofs.Answering.{no_room, all_room}
 
 -- ---- one file
 
-module _ (n r : ℕ) (w1 out : List ℕ) (l : r ≤ length w1) where
-  abbrev pairs : List ℕ
-  pairs = words_file pairing_layout n r w1
-
-  long : 4 + 3 * r ≡ length pairs
-  long = words_length plain_pairing n r w1 l
-
-  pub pairs_refused : length out < 4 + 3 * r → Does [] ((words_file pairing_layout n r w1, out, out) ∷ []) (12, [])
-  pairs_refused m = one_refused pairs out long m
-
-  pub pairs_written : {out' : List ℕ} → 4 + 3 * r ≤ length out → out' ≡ onto (words_file pairing_layout n r w1) out
-      → Does [] ((words_file pairing_layout n r w1, out, out') ∷ []) (0, (4 + 3 * r) ∷ [])
-  pairs_written m e = one_written pairs out long m e
+-- the length of a file that words make
+pub words_long : {l : Layout} → Plain l → (n : ℕ) (ws : List ℕ) {size : ℕ} → size ≡ file_length l n (length ws)
+    → size ≡ length (write_file l (file_of l n [] ws))
+words_long {l} p n ws e =
+    e ∙ words_length p n (length ws) ws (omega arith)
+    ∙ ap (λ (vs : List ℕ). length (write_file l (file_of l n [] vs))) (take-length ws)
 
 -- ---- two files
 
-module _ (n r : ℕ) (w1 out from : List ℕ) (few : r ≤ 512) (room : 8192 ≤ length w1) where
+module _ (n : ℕ) (pairs records out from : List ℕ) where
   abbrev first : List ℕ
-  first = words_file pairing_layout n r w1
+  first = write_file pairing_layout (file_of pairing_layout n [] pairs)
 
   abbrev second : List ℕ
-  second = words_file origin_list n r (drop at_origins w1)
+  second = write_file origin_list (file_of origin_list n [] records)
 
   abbrev both : List ℕ → List ℕ → List Output
   both out' from' = (first, out, out') ∷ (second, from, from') ∷ []
 
-  long_first : 4 + 3 * r ≡ length first
-  long_first = words_length plain_pairing n r w1 (omega arith)
+  module _ {size other : ℕ} (c : size ≡ file_length pairing_layout n (length pairs))
+      (d : other ≡ file_length origin_list n (length records)) where
+    long_first : size ≡ length first
+    long_first = words_long plain_pairing n pairs c
 
-  long_second : 4 + 5 * r ≡ length second
-  long_second = words_length plain_origins n r (drop at_origins w1) (omega (arith, length-drop at_origins w1))
+    long_second : other ≡ length second
+    long_second = words_long plain_origins n records d
 
-  pub both_first : length out < 4 + 3 * r → Does [] (both out from) (12, [])
-  both_first m = no_room [] (first, out, out) ((second, from, from) ∷ []) (omega (arith, long_first)) (refl, (refl, tt))
+    pub both_first : length out < size → Does [] (both out from) (12, [])
+    both_first m =
+        no_room [] (first, out, out) ((second, from, from) ∷ []) (omega (arith, long_first, m)) (refl, (refl, tt))
 
-  pub both_second : length from < 4 + 5 * r → Does [] (both out from) (12, [])
-  both_second m =
-      no_room ((first, out, out) ∷ []) (second, from, from) [] (omega (arith, long_second)) (refl, (refl, tt))
+    pub both_second : length from < other → Does [] (both out from) (12, [])
+    both_second m =
+        no_room ((first, out, out) ∷ []) (second, from, from) [] (omega (arith, long_second, m)) (refl, (refl, tt))
 
-  pub both_written : {out' from' : List ℕ} → 4 + 3 * r ≤ length out → 4 + 5 * r ≤ length from → out' ≡ onto first out
-      → from' ≡ onto (words_file origin_list n r (take (length w1 - at_origins) (drop at_origins w1))) from
-      → Does [] (both out' from') (0, (4 + 3 * r) ∷ (4 + 5 * r) ∷ [])
-  both_written {out'} {from'} l k e f =
-      rw (long_first, long_second)
-      (all_room (both out' from') (omega (arith, long_first), (omega (arith, long_second), tt)) (
-        e,
-        (
-          f ∙ ap (λ (ws : List ℕ). onto (words_file origin_list n r ws) from)
-              (take_all (length w1 - at_origins) (drop at_origins w1) (omega (arith, length-drop at_origins w1))),
-          tt,
-        ),
-      ))
+    pub both_written : {out' from' : List ℕ} → size ≤ length out → other ≤ length from → out' ≡ onto first out
+        → from' ≡ onto second from → Does [] (both out' from') (0, size ∷ other ∷ [])
+    both_written {out'} {from'} l k e f =
+        rw (long_first, long_second)
+        (all_room (both out' from') (omega (arith, long_first, l), (omega (arith, long_second, k), tt)) (e, (f, tt)))
 
 -- ---- the pairs that the words stand for
 

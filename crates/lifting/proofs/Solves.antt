@@ -1,7 +1,6 @@
 -- Solve. In order: of a graph in the slots, refusal 11 (`tail_crowded`), the table of its solution (`tail_table`), room
--- for the words that are listed of it (`tail_room`), and the file that they make (`tail_written`); what the start
--- refuses (`solve_refused`); what a slip leaves may be solved (`solve_left`), and that is what solve is to write
--- (`solve_passed`). Assumes nothing.
+-- for the words that are listed of it (`tail_room`), and the file that they make (`tail_written`); what a slip leaves
+-- may be solved (`solve_left`), and that is what solve is to write (`solve_passed`). Assumes nothing.
 use mathlib.Core.Path.{◌≡◌, refl, sym, ap, subst, ◌∙◌}
 use mathlib.Core.Bool.{Bool}
 use mathlib.Core.List.{List, [], ◌∷◌, ◌++◌, map}
@@ -15,12 +14,14 @@ use Rattle.matching.specs.Steps.{Step}
 use Rattle.matching.proofs.Sums.{each_map}
 use Rattle.cellfile.specs.Files.{pairing as pairing_layout, write_file, cells_of, steps_of, as_name, pair_fields}
 use Rattle.checks.specs.Refusals.{first}
-use Rattle.cellfile.specs.Answers.{Answer, answer}
+use Rattle.cellfile.specs.Answers.{Answer}
 use Rattle.slots.specs.Slots.{graph_of}
 use Rattle.starting.specs.Steps.{steps_on, slip_rows}
 use Rattle.checks.specs.Calls.{call_rows, crowded_row}
+use Rattle.checks.specs.declared.Refusal.TheVariants.{Crowded}
 use Rattle.checks.specs.Answering.{Does}
 use Rattle.starting.specs.Starting.{StartDone}
+use Rattle.starting.specs.declared.Started.{Started}
 use Rattle.checks.proofs.Answering.{refused, passed}
 use Rattle.starting.proofs.OnList.{left_there}
 use Rattle.lifting.specs.Calls.{pair_file, graph_after, solved_file, largest_after, solve_rows, solve_file, by_steps}
@@ -47,7 +48,7 @@ module _ {n e : ℕ} {w1 w2 : List ℕ} (h : LeftThere n e w1 w2) where
   pub tail_crowded : (out : List ℕ) → 12 < largest n w
       → Does (crowded_row (largest n w) ∷ []) ((file, out, out) ∷ []) (11, [])
   tail_crowded out l =
-      refused (crowded_row (largest n w) ∷ []) [] 0 [] (rw (lt-ltb 12 (largest n w) l)) (refl, tt)
+      refused (crowded_row (largest n w) ∷ []) [] Crowded (rw (lt-ltb 12 (largest n w) l)) (refl, tt)
 
   module _ {v : ℕ} {w2' : List ℕ} (s : SolvedIn n w w2 w2' v) where
     best : Pairing w (solution n w)
@@ -68,8 +69,8 @@ module _ {n e : ℕ} {w1 w2 : List ℕ} (h : LeftThere n e w1 w2) where
     }
 
     module _ {w1'' : List ℕ} {r : ℕ} (t : Listed all_short (solution n w) w1'' r) where
-      pub tail_room : length w1'' ≡ length w1 → (n ≤ 1024) × (r ≤ 512) × (512 ≤ length w1'')
-      tail_room q = (h.cells, t.most, omega (arith, h.holds.room1))
+      pub tail_room : length w1'' ≡ length w1 → r ≤ length w1''
+      tail_room q = omega (arith, h.holds.room1, t.most)
 
       words : words_file pairing_layout n r w1'' ≡ file
       words =
@@ -91,15 +92,9 @@ module _ {n e : ℕ} {w1 w2 : List ℕ} (h : LeftThere n e w1 w2) where
 
 -- ---- what a slip leaves
 
-pub solve_refused : (few : Bool) (list slip out : List ℕ) {k : ℕ}
-    → (k, []) ≡ answer (first (call_rows few list ++ slip_rows list slip)) (0 ∷ [])
-    → Does (call_rows few list ++ solve_rows list slip) ((solve_file list slip, out, out) ∷ []) (k, [])
-solve_refused few list slip out e =
-    refused (call_rows few list ++ slip_rows list slip) (crowded_row (largest_after list slip) ∷ []) 0 [] e (refl, tt)
-
-module _ (list slip : List ℕ) {n slots trail points steps : ℕ} {w1' w2' : List ℕ}
-    (d : StartDone list (steps_on list (steps_of slip)) n slots trail points steps w1' w2') where
-  pub solve_left : LeftThere n slots w1' w2'
+module _ (list slip : List ℕ) {at : Started} {w1' w2' : List ℕ}
+    (d : StartDone list (steps_on list (steps_of slip)) at w1' w2') where
+  pub solve_left : LeftThere at.n at.slots w1' w2'
   solve_left =
       let l =
       left_there list d.accepted (map as_name (steps_of slip)) d.taken d.steps_are d.cells d.after in
@@ -110,22 +105,22 @@ module _ (list slip : List ℕ) {n slots trail points steps : ℕ} {w1' w2' : Li
   by_steps_is x f = ap (λ (o : Option (List Step)). elim o [ none ↦ x | some ss ↦ f ss ]) (sym d.steps_are)
 
   graph_left : {A : Type 0} (f : ℕ → Points → A)
-      → f n (graph_of slots w1') ≡ f (cells_of list) (graph_after list d.taken)
+      → f at.n (graph_of at.slots w1') ≡ f (cells_of list) (graph_after list d.taken)
   graph_left f =
-      ap (λ (i : ℕ). f i (graph_of slots w1')) d.cells ∙ ap (f (cells_of list)) d.after.graph
+      ap (λ (i : ℕ). f i (graph_of at.slots w1')) d.cells ∙ ap (f (cells_of list)) d.after.graph
 
-  pub solve_passed : (few : Bool) → first (call_rows few list ++ slip_rows list slip) ≡ 0 → (out : List ℕ)
+  pub solve_passed : (few : Bool) → 0 ≡ first (call_rows few list ++ slip_rows list slip) → (out : List ℕ)
       {out' : List ℕ} {a : Answer}
-      → Does (crowded_row (largest n (graph_of slots w1')) ∷ [])
-      ((pair_file n (solution n (graph_of slots w1')), out, out') ∷ []) a
+      → Does (crowded_row (largest at.n (graph_of at.slots w1')) ∷ [])
+      ((pair_file at.n (solution at.n (graph_of at.slots w1')), out, out') ∷ []) a
       → Does (call_rows few list ++ solve_rows list slip) ((solve_file list slip, out, out') ∷ []) a
   solve_passed few z out {out'} {a} p =
       passed (call_rows few list ++ slip_rows list slip) (crowded_row (largest_after list slip) ∷ []) (omega arith) z
       (subst (λ k. Does (crowded_row k ∷ []) ((solve_file list slip, out, out') ∷ []) a) count
-      (subst (λ file. Does (crowded_row (largest n (graph_of slots w1')) ∷ []) ((file, out, out') ∷ []) a) same p))
+      (subst (λ file. Does (crowded_row (largest at.n (graph_of at.slots w1')) ∷ []) ((file, out, out') ∷ []) a) same p))
     where
-      count : largest n (graph_of slots w1') ≡ largest_after list slip
+      count : largest at.n (graph_of at.slots w1') ≡ largest_after list slip
       count = graph_left largest ∙ by_steps_is 0 (λ ss. largest (cells_of list) (graph_after list ss))
 
-      same : pair_file n (solution n (graph_of slots w1')) ≡ solve_file list slip
+      same : pair_file at.n (solution at.n (graph_of at.slots w1')) ≡ solve_file list slip
       same = graph_left (λ i v. pair_file i (solution i v)) ∙ by_steps_is [] (solved_file list)

@@ -18,7 +18,9 @@ use Rattle.cellfile.specs.Answers.{Answer}
 use Rattle.slots.specs.Slots.{graph_of}
 use Rattle.starting.specs.Steps.{graph_in, reduce_steps}
 use Rattle.starting.specs.Starting.{StartDone}
+use Rattle.starting.specs.declared.Started.{Started}
 use Rattle.checks.specs.Calls.{call_rows, crowded_row}
+use Rattle.checks.specs.declared.Refusal.TheVariants.{Crowded}
 use Rattle.checks.specs.Answering.{Does}
 use Rattle.checks.proofs.Answering.{refused, passed}
 use Rattle.reduction.proofs.Reducing.{reduce_allowed, reduce_after}
@@ -58,7 +60,7 @@ module _ {n e t count : ℕ} {w1 w2 : List ℕ} (p : TailThere n e t count w1 w2
       (11, [])
   tail_crowded out from l =
       let k : 12 < largest n g = subst (λ (v : Points). 12 < largest n v) p.left_is l in
-      refused (crowded_row (largest n g) ∷ []) [] 0 [] (rw (lt-ltb 12 (largest n g) k)) (refl, (refl, tt))
+      refused (crowded_row (largest n g) ∷ []) [] Crowded (rw (lt-ltb 12 (largest n g) k)) (refl, (refl, tt))
 
   -- solved
   module _ {v : ℕ} {w2a : List ℕ} (s : SolvedIn n (graph_of e w1) w2 w2a v) where
@@ -82,19 +84,19 @@ module _ {n e t count : ℕ} {w1 w2 : List ℕ} (p : TailThere n e t count w1 w2
 
 -- ---- on the steps of reduce
 
-module _ (list : List ℕ) {n slots on_trail points steps : ℕ} {w1 w2 : List ℕ}
-    (d : StartDone list (some (reduce_steps list)) n slots on_trail points steps w1 w2) where
+module _ (list : List ℕ) {at : Started} {w1 w2 : List ℕ}
+    (d : StartDone list (some (reduce_steps list)) at w1 w2) where
   abbrev ss : List Step
   ss = reduce_steps list
 
-  abbrev reduced : TailThere n slots on_trail steps w1 w2
+  abbrev reduced : TailThere at.n at.slots at.trail at.steps w1 w2
   reduced = tail_there list d.accepted ss (reduce_allowed list d.accepted) d.cells (reduce_after list d)
 
-  pub reduce_tail : TailThere n slots on_trail steps w1 w2
+  pub reduce_tail : TailThere at.n at.slots at.trail at.steps w1 w2
   reduce_tail = reduced
 
-  pub pair_passed : (few : Bool) → first (call_rows few list) ≡ 0 → {out from : Change} {a : Answer}
-      → Tails n slots on_trail steps w1 w2 out from a
+  pub pair_passed : (few : Bool) → 0 ≡ first (call_rows few list) → {out from : Change} {a : Answer}
+      → Tails at.n at.slots at.trail at.steps w1 w2 out from a
       → Does (call_rows few list ++ pair_rows list)
       ((pairing_file list, out.0, out.1) ∷ (pairing_origins list, from.0, from.1) ∷ []) a
   pair_passed few z {out} {from} {a} p =

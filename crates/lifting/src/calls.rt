@@ -1,116 +1,92 @@
 // Inner functions of solve and lift: see specs/Lifting.
-ghost use Rattle.std.specs.Prelude.{◌∷◌, [], ◌++◌};
-ghost use Rattle.slots.specs.Slots.{graph_of};
-ghost use Rattle.checks.specs.Calls.{answered, call_rows, crowded_row};
-ghost use Rattle.checks.specs.Answering.{Does, Enough};
+ghost use Rattle.std.specs.Prelude.{◌≡◌, ◌∷◌, [], ◌++◌};
+ghost use Rattle.buffers.specs.Buffers.{lent};
+ghost use Rattle.slots.specs.Slots.{Holds, graph_of};
+ghost use Rattle.checks.specs.Refusals.{too_few_words};
+ghost use Rattle.checks.specs.Calls.{answered, one, two, call_rows, crowded_row};
+ghost use Rattle.checks.specs.Answering.{Does};
 ghost use Rattle.lifting.specs.Calls.{pair_file, solve_rows, solve_file, lift_rows, lift_file, lift_origins};
 ghost use Rattle.matching.specs.Solve.{solution};
 ghost use Rattle.matching.specs.Groups.{largest};
 ghost use Rattle.solving.specs.Left.{LeftThere};
 ghost use Rattle.lifting.specs.Tail.{TailThere};
-ghost use Rattle.lifting.specs.Lifting.{PairingThere, LiftsPairing, LiftsTail};
+ghost use Rattle.lifting.specs.Lifting.{Enters, LiftsTail};
 
 use crate::ends;
+use cellfile::decode::PairEntry;
+use cellfile::records::Records;
 use checks;
-use checks::{Checked, Lengths};
+use checks::Refusal;
 use partners;
+use slots::graph::WorkingGraph;
 use solving;
-use solving::Solved;
 use starting;
 use starting::Started;
 
-// Refusals 11 and 12, and the solution of the graph of n cells in e slots.
-fn solve_tail(n: usize, e: usize, w1: &mut [u64], w2: &mut [u64], out: &mut [u8]) -> Lengths
-    requires { LeftThere n e w1.old w2.old }
-    ensures { Does (crowded_row (largest n (graph_of e w1.old)) ∷ [])
-        ((pair_file n (solution n (graph_of e w1.old)), out.old, out.new) ∷ [])
-        (answered result) }
+// Refusals 11 and 12, and the solution of what the steps left.
+fn solve_tail(at: Started, w1: &mut [u64], w2: &mut [u64], out: &mut [u8]) -> Result<usize, Refusal>
+    requires { LeftThere at.n at.slots w1.old w2.old }
+    ensures { Does (crowded_row (largest at.n (graph_of at.slots w1.old)) ∷ [])
+        ((pair_file at.n (solution at.n (graph_of at.slots w1.old)), out.old, out.new) ∷ [])
+        (answered one result) }
 {
-    match solving::solve_left(w1, w2, e, n) {
-        Solved::Crowded => Lengths::Refused(11),
-        Solved::Points(_) => {
-            let r = partners::list_pairs(w1, w2, n);
-            ends::write_pairs(n, w1, r, out)
-        }
-    }
+    let Some(_) = solving::solve_left(w1, w2, at.slots, at.n) else {
+        return Err(Refusal::Crowded);
+    };
+    let r = partners::list_pairs(w1, w2, at.n);
+    ends::write_pairs(at.n, &w1[..r], out)
 }
 
 // Solve, which leaves anything in the work buffers.
 pub fn solve_in(
-    few: bool,
     list: &[u8],
     slip: &[u8],
     w1: &mut [u64],
     w2: &mut [u64],
     pairing: &mut [u8],
-) -> Lengths
-    requires { Enough few w1.old w2.old }
-    ensures { Does (call_rows few list.now ++ solve_rows list.now slip.now)
+) -> Result<usize, Refusal>
+    ensures { Does (call_rows (too_few_words (lent w1.old w2.old)) list.now ++ solve_rows list.now slip.now)
         ((solve_file list.now slip.now, pairing.old, pairing.new) ∷ [])
-        (answered result) }
+        (answered one result) }
 {
-    match starting::start_slip(few, list, slip, w1, w2) {
-        Started::Refused(k) => Lengths::Refused(k),
-        Started::Done {
-            n,
-            slots,
-            trail: _,
-            carried: _,
-            steps: _,
-        } => solve_tail(n, slots, w1, w2, pairing),
-    }
+    let at = starting::start_slip(list, slip, w1, w2)?;
+    solve_tail(at, w1, w2, pairing)
 }
 
-// Refusals 10 and 12, and the pairing of k pairs of the graph in e slots brought back.
-fn lift_pairing(
-    n: usize,
+// Refusal 10 of a pairing for the graph in e slots; its partners go into the table.
+fn enter(
+    pairs: &Records<'_, PairEntry>,
     e: usize,
-    t: usize,
-    steps: usize,
-    pairing: &[u8],
-    k: usize,
     w1: &mut [u64],
     w2: &mut [u64],
-    out: &mut [u8],
-    origins: &mut [u8],
-) -> Lengths
-    requires { PairingThere n e t steps pairing.now k w1.old w2.old }
-    ensures { LiftsPairing n e t steps pairing.now k w1.old w2.old
-        (out.old, out.new) (origins.old, origins.new) (answered result) }
+) -> Result<(), Refusal>
+    requires { Holds e w1.old w2.old }
+    ensures { Enters (graph_of e w1.old) pairs.now.file.now w2.old w2.new result × (w1.new ≡ w1.old) }
 {
-    if partners::enter(pairing, k, w1, w2, e) {
-        return Lengths::Refused(10);
-    }
-    ends::bring_back(n, t, steps, w1, w2, out, origins)
+    let mut graph = WorkingGraph { w1, w2, slots: e };
+    partners::enter(pairs, &mut graph)
 }
 
-// Refusals 9, 10 and 12, and the pairing of the graph in e slots brought back over the trail of t words.
+// Refusals 9, 10 and 12, and the pairing of what the steps left brought back over the trail.
 fn lift_tail(
-    n: usize,
-    e: usize,
-    t: usize,
-    steps: usize,
+    at: Started,
     pairing: &[u8],
     w1: &mut [u64],
     w2: &mut [u64],
     out: &mut [u8],
     origins: &mut [u8],
-) -> Lengths
-    requires { TailThere n e t steps w1.old w2.old }
-    ensures { LiftsTail n e t steps pairing.now w1.old w2.old
-        (out.old, out.new) (origins.old, origins.new) (answered result) }
+) -> Result<(usize, usize), Refusal>
+    requires { TailThere at.n at.slots at.trail at.steps w1.old w2.old }
+    ensures { LiftsTail at.n at.slots at.trail at.steps pairing.now w1.old w2.old
+        (out.old, out.new) (origins.old, origins.new) (answered two result) }
 {
-    match checks::check_pairing(pairing, n) {
-        Checked::Refused(k) => Lengths::Refused(k),
-        Checked::Accepted { n: _, m: k } => {
-            lift_pairing(n, e, t, steps, pairing, k, w1, w2, out, origins)
-        }
-    }
+    let pairs = checks::check_pairing(pairing, at.n)?;
+    enter(&pairs, at.slots, w1, w2)?;
+    ends::bring_back(at, w1, w2, out, origins)
 }
 
 // Lift, which leaves anything in the work buffers.
 pub fn lift_in(
-    few: bool,
     list: &[u8],
     slip: &[u8],
     pairing: &[u8],
@@ -118,29 +94,13 @@ pub fn lift_in(
     w2: &mut [u64],
     lifted: &mut [u8],
     origins: &mut [u8],
-) -> Lengths
-    requires { Enough few w1.old w2.old }
-    ensures { Does (call_rows few list.now
+) -> Result<(usize, usize), Refusal>
+    ensures { Does (call_rows (too_few_words (lent w1.old w2.old)) list.now
         ++ lift_rows list.now slip.now pairing.now)
-        ((
-          lift_file list.now slip.now pairing.now,
-          lifted.old,
-          lifted.new,
-        ) ∷ (
-          lift_origins list.now slip.now pairing.now,
-          origins.old,
-          origins.new,
-        ) ∷ [])
-        (answered result) }
+        ((lift_file list.now slip.now pairing.now, lifted.old, lifted.new)
+        ∷ (lift_origins list.now slip.now pairing.now, origins.old, origins.new) ∷ [])
+        (answered two result) }
 {
-    match starting::start_slip(few, list, slip, w1, w2) {
-        Started::Refused(k) => Lengths::Refused(k),
-        Started::Done {
-            n,
-            slots,
-            trail,
-            carried: _,
-            steps,
-        } => lift_tail(n, slots, trail, steps, pairing, w1, w2, lifted, origins),
-    }
+    let at = starting::start_slip(list, slip, w1, w2)?;
+    lift_tail(at, pairing, w1, w2, lifted, origins)
 }

@@ -1,81 +1,76 @@
 // Inner: the end of a call, which writes its pairing, and beside a lifted one where its pairs came from. See
 // specs/Ending.
-ghost use Rattle.std.specs.Prelude.{◌∷◌, [], ◌≤◌, length, drop};
-ghost use Rattle.buffers.specs.Map.{at_origins};
-ghost use Rattle.cellfile.specs.Files.{pairing as pairing_layout, origin_list};
-ghost use Rattle.checks.specs.Calls.{answered};
+ghost use Rattle.std.specs.Prelude.{◌≡◌, ◌∷◌, [], ◌≤◌, length};
+ghost use Rattle.cellfile.specs.Files.{pairing as pairing_layout, origin_list, write_file};
+ghost use Rattle.cellfile.specs.Words.{file_of};
+ghost use Rattle.checks.specs.Calls.{answered, one, two};
 ghost use Rattle.checks.specs.Answering.{Does};
-ghost use Rattle.cellfile.specs.Words.{words_file};
 ghost use Rattle.lifting.specs.Ending.{ReturnThere, Returns};
 
 use buffers::map::ORIGIN_WORDS;
-use cellfile::{format, write};
-use checks::Lengths;
+use cellfile::format::Kind;
+use cellfile::write;
+use checks;
+use checks::Refusal;
 use partners;
+use starting::Started;
 use undoing;
 
-// Refusal 12 and the pairing of n cells whose pairs are the first r words.
-pub fn write_pairs(n: usize, w1: &[u64], r: usize, out: &mut [u8]) -> Lengths
-    requires { (n ≤ 1024) × (r ≤ 512) × (512 ≤ length w1.now) }
-    ensures { Does []
-        ((words_file pairing_layout n r w1.now, out.old, out.new) ∷ []) (answered result) }
+// Refusal 12 and the pairing of n cells whose pairs are these words.
+pub fn write_pairs(n: usize, pairs: &[u64], out: &mut [u8]) -> Result<usize, Refusal>
+    requires { (n ≤ 1024) × (length pairs.now ≤ 512) }
+    ensures { Does [] ((write_file pairing_layout (file_of pairing_layout n [] pairs.now), out.old, out.new) ∷ [])
+        (answered one result) }
 {
-    let size = format::HEADER_BYTES + format::PAIR_BYTES * r;
-    if out.len() < size {
-        return Lengths::Refused(12);
-    }
-    write::write_words(format::PAIRING, format::PAIR_BYTES, n, w1, r, out);
-    Lengths::One(size)
+    let size = Kind::Pairing.file_bytes(pairs.len());
+    checks::check_room(out, size)?;
+    write::write_words(Kind::Pairing, n, pairs, out);
+    Ok(size)
 }
 
-// The same, and the origin list whose records are the r words from `ORIGIN_WORDS` on.
-#[tactic(auto, using(crate::proofs::Pairs::both_first, crate::proofs::Pairs::both_second))]
-fn write_both(n: usize, w1: &[u64], r: usize, out: &mut [u8], origins: &mut [u8]) -> Lengths
-    requires { (n ≤ 1024) × (r ≤ 512) × (8192 ≤ length w1.now) }
-    ensures { Does []
-        ((words_file pairing_layout n r w1.now, out.old, out.new)
-        ∷ (words_file origin_list n r (drop at_origins w1.now), origins.old, origins.new)
-        ∷ []) (answered result) }
-{
-    let size = format::HEADER_BYTES + format::PAIR_BYTES * r;
-    let origin_size = format::HEADER_BYTES + format::ORIGIN_BYTES * r;
-    if out.len() < size {
-        return Lengths::Refused(12);
-    }
-    if origins.len() < origin_size {
-        return Lengths::Refused(12);
-    }
-    write::write_words(format::PAIRING, format::PAIR_BYTES, n, w1, r, out);
-    write::write_words(
-        format::ORIGIN_LIST,
-        format::ORIGIN_BYTES,
-        n,
-        &w1[ORIGIN_WORDS..],
-        r,
-        origins,
-    );
-    Lengths::Two {
-        first: size,
-        second: origin_size,
-    }
-}
-
-// Brings the pairing in the table back over the trail of t words, so many steps, and writes it and where its pairs came
-// from; refusal 12.
-pub fn bring_back(
+// The same, and the origin list of as many records.
+fn write_both(
     n: usize,
-    t: usize,
-    steps: usize,
+    pairs: &[u64],
+    records: &[u64],
+    out: &mut [u8],
+    origins: &mut [u8],
+) -> Result<(usize, usize), Refusal>
+    requires { (n ≤ 1024) × (length pairs.now ≤ 512) × (length records.now ≡ length pairs.now) }
+    ensures { Does []
+        ((write_file pairing_layout (file_of pairing_layout n [] pairs.now), out.old, out.new)
+        ∷ (write_file origin_list (file_of origin_list n [] records.now), origins.old, origins.new)
+        ∷ []) (answered two result) }
+{
+    let size = Kind::Pairing.file_bytes(pairs.len());
+    let origin_size = Kind::OriginList.file_bytes(records.len());
+    checks::check_room(out, size)?;
+    checks::check_room(origins, origin_size)?;
+    write::write_words(Kind::Pairing, n, pairs, out);
+    write::write_words(Kind::OriginList, n, records, origins);
+    Ok((size, origin_size))
+}
+
+// Brings the pairing in the table back over the trail, and writes it and where its pairs came from; refusal 12.
+pub fn bring_back(
+    at: Started,
     w1: &mut [u64],
     w2: &mut [u64],
     out: &mut [u8],
     origins: &mut [u8],
-) -> Lengths
-    requires { ReturnThere n t steps w1.old w2.old }
-    ensures { Returns n t steps w1.old w2.old (out.old, out.new)
-        (origins.old, origins.new) (answered result) }
+) -> Result<(usize, usize), Refusal>
+    requires { ReturnThere at.n at.trail at.steps w1.old w2.old }
+    ensures { Returns at.n at.trail at.steps w1.old w2.old (out.old, out.new)
+        (origins.old, origins.new) (answered two result) }
 {
-    undoing::lift_back(w1, w2, t, steps);
-    let r = partners::list_pairs(w1, w2, n);
-    write_both(n, w1, r, out, origins)
+    undoing::lift_back(w1, w2, at.trail, at.steps);
+    let r = partners::list_pairs(w1, w2, at.n);
+    let words = &w1[..];
+    write_both(
+        at.n,
+        &words[..r],
+        &words[ORIGIN_WORDS..ORIGIN_WORDS + r],
+        out,
+        origins,
+    )
 }

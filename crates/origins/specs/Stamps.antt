@@ -1,20 +1,13 @@
 -- Origins as the program has them, and as stamps: numbers of 14 bits, the step above the rule. Inner contracts cite
 -- this; laws: proofs/Stamps.
 use Rattle.std.specs.Prelude.{cond, ℕ, ◌+◌, ◌*◌, ◌/◌, ◌%◌, eqb}
-use Rattle.matching.specs.Steps.{Rule, by_leaf, by_ring, by_chain}
 use Rattle.matching.specs.Origin.{Origin, from_short, from_step, number_in}
 use Rattle.cellfile.specs.Files.{rule_named, rule_in}
-use Rattle.origins.specs.declared.Rule as rules
-use Rattle.origins.specs.declared.Rule.TheVariants.{Leaf, Ring, Chain}
+use Rattle.cellfile.specs.Kinds.{as_rule}
 use Rattle.origins.specs.declared.Origin as cases
 use Rattle.origins.specs.declared.Origin.TheVariants as from
 
--- The rule and the origin that a value of the program's enums stands for.
-abbrev pub as_rule : rules.Rule → Rule
-as_rule Leaf = by_leaf
-as_rule Ring = by_ring
-as_rule Chain = by_chain
-
+-- The origin that a value of the program's enum stands for.
 abbrev pub as_origin : cases.Origin → Origin
 as_origin from.Short = from_short
 as_origin (from.Step number rule) = from_step number (as_rule rule)

@@ -4,19 +4,10 @@
 
 ghost use Rattle.std.specs.Prelude.{◌≡◌, ◌≤◌, ◌<◌};
 ghost use Rattle.matching.specs.Origin.{number_in};
-ghost use Rattle.cellfile.specs.Files.{number_of, rule_named};
 ghost use Rattle.cellfile.specs.Words.{word_of_origin};
-ghost use Rattle.origins.specs.Stamps.{as_rule, as_origin, stamp_for, origin_in};
+ghost use Rattle.origins.specs.Stamps.{as_origin, stamp_for, origin_in};
 
-use cellfile::format::{CHAIN, LEAF, RING};
-
-// The rule of a step.
-#[derive(Clone, Copy)]
-pub enum Rule {
-    Leaf,
-    Ring,
-    Chain,
-}
+use cellfile::format::Rule;
 
 // From the short list, or from a step with its rule; steps count from 1.
 #[derive(Clone, Copy)]
@@ -43,59 +34,38 @@ const CELL_B: u64 = 1048576;
 
 const STAMP: u64 = 64;
 
-// The number of a rule.
-fn rule_number(rule: Rule) -> u64
-    ensures { (result ≡ number_of (as_rule rule)) × (result ≤ 3) }
-{
-    match rule {
-        Rule::Leaf => LEAF,
-        Rule::Ring => RING,
-        Rule::Chain => CHAIN,
+impl Origin {
+    // Its stamp: 0, or its step above its rule.
+    pub fn stamp(self) -> u64
+        requires { number_in (as_origin self) < 2048 }
+        ensures { (result ≡ stamp_for (as_origin self)) × (result < 16384) }
+    {
+        match self {
+            Origin::Short => 0,
+            Origin::Step { number, rule } => number * STEP + u64::from(rule),
+        }
+    }
+
+    // The origin with that stamp.
+    pub fn of_stamp(stamp: u64) -> Origin
+        ensures { as_origin result ≡ origin_in stamp }
+    {
+        if stamp == 0 {
+            return Origin::Short;
+        }
+        Origin::Step {
+            number: stamp / STEP,
+            rule: Rule::named(stamp % STEP),
+        }
     }
 }
 
-// The rule with that number.
-fn rule_of(number: u64) -> Rule
-    ensures { as_rule result ≡ rule_named number }
-{
-    if number == LEAF {
-        return Rule::Leaf;
+impl PairOrigin {
+    // Its record in an origin list, as a word.
+    pub fn word(self) -> u64
+        requires { (self.a < 1024) × (self.b < 1024) × (number_in (as_origin self.origin) < 2048) }
+        ensures { result ≡ word_of_origin (λ a b. as_origin self.origin) (self.a, self.b) }
+    {
+        self.a * CELL_A + self.b * CELL_B + self.origin.stamp() * STAMP
     }
-    if number == RING {
-        return Rule::Ring;
-    }
-    Rule::Chain
-}
-
-// The stamp of an origin: 0, or its step above its rule.
-pub fn stamp_of(origin: Origin) -> u64
-    requires { number_in (as_origin origin) < 2048 }
-    ensures { (result ≡ stamp_for (as_origin origin)) × (result < 16384) }
-{
-    match origin {
-        Origin::Short => 0,
-        Origin::Step { number, rule } => number * STEP + rule_number(rule),
-    }
-}
-
-// The origin with that stamp.
-pub fn origin_of(stamp: u64) -> Origin
-    ensures { as_origin result ≡ origin_in stamp }
-{
-    if stamp == 0 {
-        return Origin::Short;
-    }
-    Origin::Step {
-        number: stamp / STEP,
-        rule: rule_of(stamp % STEP),
-    }
-}
-
-// The record of a pair in an origin list, as a word.
-pub fn origin_word(pair: PairOrigin) -> u64
-    requires { (pair.a < 1024) × (pair.b < 1024) × (number_in (as_origin pair.origin) < 2048) }
-    ensures { result ≡ word_of_origin (λ a b. as_origin pair.origin) (pair.a, pair.b) }
-{
-    let origin = pair.origin;
-    pair.a * CELL_A + pair.b * CELL_B + stamp_of(origin) * STAMP
 }

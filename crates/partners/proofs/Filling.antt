@@ -1,4 +1,4 @@
--- The table emptied and filled. In order: the words cleared so far (`Emptying`); the pairs entered so far (`Filling`):
+-- The table emptied and filled. In order: the table emptied; the pairs entered so far (`Filling`):
 -- at the start, where a cell stands twice, after a pair, at the end; the same for the pairs of a file from place i on.
 -- Assumes nothing.
 use mathlib.Core.Path.{◌≡◌, refl, sym, ap, subst, ◌∙◌}
@@ -8,7 +8,9 @@ use mathlib.Core.List.{List, [], ◌∷◌}
 use Prim.Native.Nat.{ℕ, suc, ◌+◌, ◌≤◌, ◌<◌}
 use native.Mathlib.Omega.{arith}
 use lib.Dec.{ltb}
-use lib.ListN.{length, get_or, set, drop, length-set, drop_of_length-le}
+use lib.ListN.{length, get_or, set, take, drop, replicate, length-set, drop_of_length-le}
+use borrow.Rule.Slice.PartMut.{put_mid}
+use Rattle.buffers.proofs.Filled.{zero_in, same_out}
 use lib.Seq.{get_or-set_same, get_or-set_other}
 use borrow.Author.Tests.{lt-ltb, ne_eqb}
 use Rattle.buffers.specs.Map.{at_table}
@@ -47,29 +49,12 @@ table_other w c x d n = get_or-set_other w (at_table + c) (at_table + d) x 0 (λ
 
 -- ---- the table emptied
 
--- The words of the cells below c are cleared, since the buffer was w.
-pub record Emptying (w v : List ℕ) (c : ℕ) : Type 0 where
-  pub at : c ≤ 1024
-  pub zeros : (d : ℕ) → d < c → mate_at v d ≡ 0
-  pub aside : TableOnly w v
+module _ (w x : List ℕ) (room : 8192 ≤ length w) (q : x ≡ replicate (length (take 1024 (drop 7168 w))) 0) where
+  pub emptied : Empty (put_mid 7168 1024 w x)
+  emptied c l = zero_in w x 7168 1024 (omega arith) q (at_table + c) (omega arith) (omega arith)
 
-pub empty_start : (w : List ℕ) → Emptying w w 0
-empty_start w = record { at = omega arith; zeros = λ d l. absurd (omega arith); aside = λ j l. refl }
-
-pub empty_next : {w v : List ℕ} {c : ℕ} → Emptying w v c → 8192 ≤ length v → c < 1024
-    → Emptying w (set v (at_table + c) 0) (c + 1)
-empty_next {w} {v} {c} p room l = record {
-  at = omega arith;
-  zeros = λ d k. go d k (eq_test d c);
-  aside = trail_on w v (set v (at_table + c) 0) p.aside (trail_set v c 0);
-}
-  where
-    go : (d : ℕ) → d < c + 1 → {t : Bool} → Test (d ≡ c) (d ≢ c) t → mate_at (set v (at_table + c) 0) d ≡ 0
-    go d k (pass e) = rw e (table_same v c 0 room l)
-    go d k (fail n) = table_other v c 0 d n ∙ p.zeros d (omega arith)
-
-pub empty_end : {w v : List ℕ} {c : ℕ} → Emptying w v c → 1024 ≤ c → Empty v × TableOnly w v
-empty_end p l = (λ d k. p.zeros d (omega arith), p.aside)
+  pub emptied_only : TableOnly w (put_mid 7168 1024 w x)
+  emptied_only j l = same_out w x 7168 1024 (omega arith) q j (inl l)
 
 -- ---- the table filled
 

@@ -1,16 +1,19 @@
 -- A pairing into the table of partners and out of it. Inner contracts cite this.
-use Rattle.std.specs.Prelude.{◌≡◌, ◌≢◌, Bool, false, List, map, ℕ, suc, ◌+◌, ◌*◌, ◌-◌, ◌/◌, ◌%◌, ◌≤◌, ◌<◌}
+use Rattle.std.specs.Prelude.{◌≡◌, ◌≢◌, OnOk, Result, List, [], ◌∷◌, map, ℕ, suc, ◌+◌, ◌*◌, ◌-◌, ◌/◌, ◌%◌, ◌≤◌, ◌<◌}
 use Rattle.std.specs.Prelude.{length, get_or, set, take, drop}
 use Rattle.buffers.specs.Map.{trail_room, at_table, at_origins, partner_field}
-use Rattle.matching.specs.Pairs.{Pair, Points, sum, Each}
+use Rattle.matching.specs.Pairs.{Pair, sum, Each}
 use Rattle.matching.specs.Pairing.{Once, seen}
 use Rattle.matching.specs.Origin.{Origins, all_short, number_in}
 use Rattle.matching.specs.Listed.{filed}
-use Rattle.cellfile.specs.Files.{count_of, pairs_of}
-use Rattle.checks.specs.Refusals.{bad_pairing, no_pairing}
+use Rattle.cellfile.specs.Files.{pairs_of}
+use Rattle.checks.specs.Refusals.{first}
+use Rattle.checks.specs.Calls.{refusal_in, hold_row}
+use Rattle.checks.specs.declared.Refusal.{Refusal}
 use Rattle.cellfile.specs.Words.{pair_word, word_of_origin}
 use Rattle.origins.specs.Stamps.{stamp_for, origin_in}
-use Rattle.slots.specs.Slots.{Holds}
+use Rattle.slots.specs.Working.{graph_in, SameBuffers}
+use Rattle.slots.specs.declared.graph.WorkingGraph.{WorkingGraph}
 
 -- The word of the cell c with the partner b: the partner's number and 1, and above them the stamp of where the pair
 -- came from.
@@ -30,12 +33,6 @@ joined x y stamp w2 =
 abbrev pub Within : ℕ → List Pair → Type 0
 Within n m = Each (λ a b. (a < n) × (b < n) × (a ≢ b)) m
 
--- A pairing file that has passed refusal 9, and a graph in e slots.
-pub record FileThere (n e : ℕ) (file : List ℕ) (k : ℕ) (w1 w2 : List ℕ) : Type 0 where
-  pub holds : Holds e w1 w2
-  pub formed : bad_pairing n file ≡ false
-  pub count : k ≡ count_of file
-
 -- The words of the trail, or all words before the table, did not change.
 abbrev pub TrailKept : List ℕ → List ℕ → Type 0
 TrailKept w2 w2' = (j : ℕ) → j < trail_room → get_or w2' j 0 ≡ get_or w2 j 0
@@ -43,11 +40,14 @@ TrailKept w2 w2' = (j : ℕ) → j < trail_room → get_or w2' j 0 ≡ get_or w2
 abbrev pub TableOnly : List ℕ → List ℕ → Type 0
 TableOnly w2 w2' = (j : ℕ) → j < at_table → get_or w2' j 0 ≡ get_or w2 j 0
 
--- Refusal 10; where it does not hold the table has the partners.
-pub record Entered (w : Points) (file w2 w2' : List ℕ) (refused : Bool) : Type 0 where
-  pub answer : refused ≡ no_pairing w (pairs_of file)
-  pub mates : refused ≡ false → Mates w2' all_short (pairs_of file)
-  pub aside : TableOnly w2 w2'
+-- Refusal 10; where it does not hold the table has the partners. The graph stays.
+pub record Entered (file : List ℕ) (g g' : WorkingGraph) (r : Result Unit Refusal) : Type 0 where
+  pub refusal : refusal_in r ≡ first (hold_row (graph_in g) file ∷ [])
+  pub mates : OnOk r (Mates g'.w2.now all_short (pairs_of file))
+  pub aside : TableOnly g.w2.now g'.w2.now
+  pub slots : g'.slots ≡ g.slots
+  pub first_kept : g'.w1.now ≡ g.w1.now
+  pub buffers : SameBuffers g g'
 
 -- The record of an origin list, as a word, for a cell and its word in the table.
 abbrev pub record_in : ℕ → ℕ → ℕ

@@ -2,22 +2,22 @@
 // See specs/Table.
 #![tactic(auto)]
 
-ghost use Rattle.std.specs.Prelude.{◌≡◌, not, List, ℕ, ◌*◌, ◌%◌, ◌≤◌, ◌<◌, length};
+ghost use Rattle.std.specs.Prelude.{◌≡◌, not, List, ◌*◌, ◌%◌, ◌≤◌, ◌<◌, length};
 ghost use Rattle.buffers.specs.Map.{partner_field};
 ghost use Rattle.matching.specs.Pairs.{Pair};
 ghost use Rattle.matching.specs.Origin.{Origins};
-ghost use Rattle.cellfile.specs.Files.{pairing as pairing_layout, pairs_of};
-ghost use Rattle.checks.specs.Loops.{WholeFile};
-ghost use Rattle.slots.specs.Slots.{Holds, graph_of};
-ghost use Rattle.partners.specs.Table.{joined, FileThere, TableOnly, Entered, record_in, TableThere};
+ghost use Rattle.cellfile.specs.Files.{pairs_of};
+ghost use Rattle.slots.specs.Working.{graph_in};
+ghost use Rattle.partners.specs.Table.{joined, TableOnly, Entered, record_in, TableThere};
 ghost use Rattle.partners.specs.Table.{Listed};
 ghost use Rattle.partners.specs.Entering.{all_there, Empty, Filled};
 
 use buffers::map::{ORIGIN_WORDS, PAIR_A, PAIR_B, PARTNER_FIELD, TABLE};
-use cellfile::decode;
-use origins;
-use origins::PairOrigin;
-use slots::read;
+use cellfile::decode::PairEntry;
+use cellfile::records::Records;
+use checks::Refusal;
+use origins::{Origin, PairOrigin};
+use slots::graph::WorkingGraph;
 
 // The words of the table.
 const CELLS: usize = 1024;
@@ -37,13 +37,13 @@ fn record_of(a: u64, word: u64) -> u64
         × (word < partner_field * 16384) }
     ensures { result ≡ record_in a word }
 {
-    let origin = origins::origin_of(word / PARTNER_FIELD);
+    let origin = Origin::of_stamp(word / PARTNER_FIELD);
     let pair = PairOrigin {
         a,
         b: word % PARTNER_FIELD - 1,
         origin,
     };
-    origins::origin_word(pair)
+    pair.word()
 }
 
 // The pairs of a table of partners of n cells in file order, as words at the start of the first buffer, and their
@@ -54,12 +54,10 @@ pub fn list_pairs(w1: &mut [u64], w2: &[u64], n: usize) -> usize
         → Listed o m w1.new result }
 {
     let mut r = 0;
-    let mut c = 0;
-    while c < n {
+    for c in 0..n {
         let word = w2[TABLE + c];
         let p = word % PARTNER_FIELD;
         let low = c as u64;
-        c += 1;
         if low + 1 < p {
             w1[r] = low * PAIR_A + (p - 1) * PAIR_B;
             w1[ORIGIN_WORDS + r] = record_of(low, word);
@@ -69,20 +67,15 @@ pub fn list_pairs(w1: &mut [u64], w2: &[u64], n: usize) -> usize
     r
 }
 
-// Whether a pair of the pairing is not in the graph of e slots.
-fn missing(pairing: &[u8], k: usize, w1: &[u64], w2: &[u64], e: usize) -> bool
-    requires { WholeFile pairing_layout pairing.now k × Holds e w1.now w2.now }
-    ensures { result ≡ not (all_there (graph_of e w1.now) (pairs_of pairing.now)) }
+// Whether a pair of the pairing is not in the graph.
+fn is_missing(pairs: &Records<'_, PairEntry>, graph: &WorkingGraph) -> bool
+    ensures { result ≡ not (all_there (graph_in graph.now) (pairs_of pairs.now.file.now)) }
 {
-    let mut i = 0;
-    while i < k {
-        let p = decode::pairing_pair(pairing, i);
-        let a = p.a;
-        let b = p.b;
-        if read::find(w1, w2, e, a, b) == 0 {
+    for i in 0..pairs.count {
+        let p = pairs.get(i);
+        if graph.find(p.a, p.b).is_none() {
             return true;
         }
-        i += 1;
     }
     false
 }
@@ -92,52 +85,46 @@ pub fn clear_table(w2: &mut [u64])
     requires { 8192 ≤ length w2.old }
     ensures { Empty w2.new × TableOnly w2.old w2.new }
 {
-    let mut c = 0;
-    while c < CELLS {
-        w2[TABLE + c] = 0;
-        c += 1;
-    }
+    w2[TABLE..TABLE + CELLS].fill(0);
 }
 
 // Whether a cell stands twice. The partners of the cells met go into the table, which is empty before.
-fn fill(pairing: &[u8], k: usize, w2: &mut [u64]) -> bool
-    requires { WholeFile pairing_layout pairing.now k × (8192 ≤ length w2.old) × Empty w2.old }
-    ensures { Filled (pairs_of pairing.now) w2.old w2.new result }
+fn fill(pairs: &Records<'_, PairEntry>, w2: &mut [u64]) -> bool
+    requires { (8192 ≤ length w2.old) × Empty w2.old }
+    ensures { Filled (pairs_of pairs.now.file.now) w2.old w2.new result }
 {
-    let mut i = 0;
-    while i < k {
-        let p = decode::pairing_pair(pairing, i);
-        let a = p.a;
-        let b = p.b;
-        if w2[TABLE + a] != 0 {
+    for i in 0..pairs.count {
+        let p = pairs.get(i);
+        if w2[TABLE + p.a] != 0 {
             return true;
         }
-        w2[TABLE + a] = b as u64 + 1;
-        if w2[TABLE + b] != 0 {
+        w2[TABLE + p.a] = p.b as u64 + 1;
+        if w2[TABLE + p.b] != 0 {
             return true;
         }
-        w2[TABLE + b] = a as u64 + 1;
-        i += 1;
+        w2[TABLE + p.b] = p.a as u64 + 1;
     }
     false
 }
 
 // Whether a cell of the pairing stands twice; else the table has its partners.
-pub fn enter_pairs(pairing: &[u8], k: usize, w2: &mut [u64]) -> bool
-    requires { WholeFile pairing_layout pairing.now k × (8192 ≤ length w2.old) }
-    ensures { Filled (pairs_of pairing.now) w2.old w2.new result }
+pub fn enter_pairs(pairs: &Records<'_, PairEntry>, w2: &mut [u64]) -> bool
+    requires { 8192 ≤ length w2.old }
+    ensures { Filled (pairs_of pairs.now.file.now) w2.old w2.new result }
 {
     clear_table(w2);
-    fill(pairing, k, w2)
+    fill(pairs, w2)
 }
 
-// Refusal 10 of a pairing that has passed 9, for the graph in e slots; its partners go into the table.
-pub fn enter(pairing: &[u8], k: usize, w1: &[u64], w2: &mut [u64], e: usize) -> bool
-    requires { (n : ℕ) × FileThere n e pairing.now k w1.now w2.old }
-    ensures { Entered (graph_of e w1.now) pairing.now w2.old w2.new result }
+// Refusal 10 of a pairing that has passed 9, for the graph; its partners go into the table.
+pub fn enter(pairs: &Records<'_, PairEntry>, graph: &mut WorkingGraph) -> Result<(), Refusal>
+    ensures { Entered pairs.now.file.now graph.old graph.new result }
 {
-    if missing(pairing, k, w1, w2, e) {
-        return true;
+    if is_missing(pairs, graph) {
+        return Err(Refusal::NoPairing);
     }
-    enter_pairs(pairing, k, w2)
+    if enter_pairs(pairs, graph.w2) {
+        return Err(Refusal::NoPairing);
+    }
+    Ok(())
 }

@@ -1,30 +1,50 @@
--- What is left when pairs are put in place of a row. In order: a pair put where it has no points, put twice, and put
--- elsewhere (`put_zero`, `put_twice`, `put_beyond`); a pair that gets points, in either order of its cells
--- (`no_points`, `turned_none`, `turned_points`), that goes (`freed_none`, `freed_kill`), and that gets the larger
--- points (`more_one`, `more_none`, `free_unpaired`, `pair_raised`); the three pairs of a chain's ends (`ends_last`,
--- `ends_first`, `ends_put`). Assumes nothing.
+-- What is left when pairs are put in place of a row. In order: a change upon a change, and none (`changes_on`,
+-- `unchanged`); a pair put where it has no points, put twice, and put elsewhere (`put_zero`, `put_twice`,
+-- `put_beyond`); a pair that gets points, its lower cell first (`no_points`, `sorted`, `sorted_none`, `sorted_put`),
+-- that goes (`freed_none`, `freed_kill`), and that gets the larger points (`free_unpaired`, `pair_raised`); the three
+-- pairs of a chain's ends (`ends_last`, `ends_first`, `ends_put`). Assumes nothing.
 use mathlib.Core.Path.{◌≡◌, refl, sym, ap, ◌∙◌, fun_ext}
 use mathlib.Core.Logic.{inl, inr, ◌≢◌}
 use mathlib.Core.Bool.{Bool, cond}
-use mathlib.Core.List.{List}
-use Prim.Native.Nat.{ℕ, zero, suc, ◌+◌, ◌≤◌, ◌<◌, max}
+use Prim.Native.Nat.{ℕ, ◌+◌, ◌≤◌, ◌<◌, max, min}
 use native.Mathlib.Omega.{arith}
 use lib.Dec.{ltb}
 use lib.ListN.{get_or}
-use borrow.Author.Tests.{lt-ltb, le-ltb}
-use Rattle.matching.specs.Pairs.{Points, ι}
+use Rattle.matching.specs.Pairs.{Points}
 use Rattle.matching.specs.Graph.{Graph, put}
-use Rattle.matching.proofs.Tests.{Test, pass, fail, fails}
+use Rattle.matching.proofs.Tests.{Test, pass, fail, fails, lt_test}
 use Rattle.matching.proofs.Pairs.{Same, Apart, same_test}
 use Rattle.matching.proofs.Sums.{turned_same}
 use Rattle.matching.proofs.Put.{put_at, put_else}
-use Rattle.slots.specs.Slots.{Holds, graph_of, low_of, high_of, Joins, Changed}
-use Rattle.slots.specs.Found.{FindSlot}
+use Rattle.slots.specs.Slots.{low_of, high_of, Joins}
+use Rattle.slots.specs.Working.{graph_in, Changes}
+use Rattle.slots.specs.declared.graph.WorkingGraph.{WorkingGraph}
 use Rattle.slots.proofs.Graphs.{holds_graph, joins_points}
 use Rattle.slots.proofs.Holding.{put_turned, joins_put}
+use Rattle.slots.proofs.Stores.{aside_on}
+use Rattle.slots.proofs.Working.{buffers_on}
 use Rattle.putting.specs.Putting.{Unpaired, PairRaised, EndsThere, EndsPut}
-use Rattle.putting.specs.declared.Raised.{Raised}
+use Rattle.putting.specs.declared.Ends.{Ends}
 use Rattle.finding.proofs.Gone.{put_away}
+
+-- ---- changes
+
+pub changes_on : {e e' : ℕ} {w w' w'' : Points} {g g' g'' : WorkingGraph} → Changes e w g g'
+    → Changes e' w' g' g'' → w' ≡ w'' → Changes e' w'' g g''
+changes_on {g = g} {g' = g'} {g'' = g''} h k q = record {
+  slots = k.slots;
+  graph = k.graph ∙ q;
+  aside = aside_on g.w2.now g'.w2.now g''.w2.now h.aside k.aside;
+  buffers = buffers_on h.buffers k.buffers;
+}
+
+pub unchanged : {w : Points} (g : WorkingGraph) → graph_in g ≡ w → Changes g.slots w g g
+unchanged g q = record {
+  slots = refl;
+  graph = q;
+  aside = λ j m. refl;
+  buffers = record { first = refl; second = refl };
+}
 
 -- ---- a pair put
 
@@ -57,132 +77,122 @@ at_pair q a b = ap (λ (w : Points). w a b) q
 
 -- ---- one pair
 
-module _ {e : ℕ} {w1 w2 : List ℕ} {x y : ℕ} (h : Unpaired e w1 w2 x y) where
-  pub no_points : {k : ℕ} → k ≡ 0 → Changed e (put x y k (graph_of e w1)) w1 w2 w2
-  no_points {k} z = record {
-    holds = h.holds;
-    graph =
-        sym (put_zero (holds_graph h.holds) x y h.none) ∙ ap (λ (j : ℕ). put x y j (graph_of e w1)) (sym z);
-    aside = λ j m. refl;
-  }
+module _ {g : WorkingGraph} {x y : ℕ} (h : Unpaired g x y) where
+  pub no_points : {k : ℕ} → k ≡ 0 → Changes g.slots (put x y k (graph_in g)) g g
+  no_points {k} z =
+      unchanged g
+      (sym (put_zero (holds_graph g.holds) x y h.none) ∙ ap (λ (j : ℕ). put x y j (graph_in g)) (sym z))
 
   -- the lower cell first
-  pub turned_none : graph_of e w1 y x ≡ 0
-  turned_none = (holds_graph h.holds).turned y x ∙ h.none
+  pub sorted : {p q : ℕ} → p ≡ min x y → q ≡ max x y → Same x y p q
+  sorted {p} {q} l m = go (lt_test x y)
+    where
+      go : {t : Bool} → Test (x < y) (y ≤ x) t → Same x y p q
+      go (pass a) = inl (omega arith, omega arith)
+      go (fail a) = inr (omega arith, omega arith)
 
-  pub turned_points : (k : ℕ) {e' : ℕ} {w1' w2' : List ℕ} → Changed e' (put y x k (graph_of e w1)) w1' w2 w2'
-      → Changed e' (put x y k (graph_of e w1)) w1' w2 w2'
-  turned_points k c = record {
-    holds = c.holds;
-    graph = c.graph ∙ put_turned y x k (graph_of e w1);
-    aside = c.aside;
-  }
+  pub sorted_none : {p q : ℕ} → Same x y p q → graph_in g p q ≡ 0
+  sorted_none {p} {q} s = turned_same (graph_in g) (holds_graph g.holds).turned x y p q s ∙ h.none
+
+  pub sorted_put : {p q : ℕ} (k : ℕ) {g' : WorkingGraph} → Same x y p q
+      → Changes (g.slots + 1) (put p q k (graph_in g)) g g'
+      → Changes g'.slots (put x y k (graph_in g)) g g' × (g'.slots ≤ g.slots + 1)
+  sorted_put {p} {q} k s c = (
+    record { slots = refl; graph = c.graph ∙ go s; aside = c.aside; buffers = c.buffers },
+    omega (arith, c.slots),
+  )
+    where
+      go : Same x y p q → put p q k (graph_in g) ≡ put x y k (graph_in g)
+      go (inl e) = rw (e.0, e.1)
+      go (inr e) = rw (e.0, e.1) (put_turned y x k (graph_in g))
 
 -- ---- a pair that goes
 
-module _ {e : ℕ} {w1 w2 : List ℕ} (h : Holds e w1 w2) (u v : ℕ) where
-  pub freed_none : (s : ℕ) → FindSlot e w1 u v s → s ≡ 0
-      → (0 ≡ graph_of e w1 u v) × Changed e (put u v 0 (graph_of e w1)) w1 w2 w2
-  freed_none zero f z = (
-    sym f,
-    record { holds = h; graph = sym (put_zero (holds_graph h) u v f); aside = λ j m. refl },
-  )
-  freed_none (suc i) f z = absurd (omega arith)
+module _ (g : WorkingGraph) (u v : ℕ) where
+  pub freed_none : graph_in g u v ≡ 0
+      → (0 ≡ graph_in g u v) × Changes g.slots (put u v 0 (graph_in g)) g g
+  freed_none z = (sym z, unchanged g (sym (put_zero (holds_graph g.holds) u v z)))
 
-  pub freed_kill : {i : ℕ} → Joins e w1 i u v → {w1' w2' : List ℕ}
-      → Changed e (put (low_of w1 i) (high_of w1 i) 0 (graph_of e w1)) w1' w2 w2'
-      → (get_or w1 i 0 ≡ graph_of e w1 u v) × Changed e (put u v 0 (graph_of e w1)) w1' w2 w2'
+  pub freed_kill : {i : ℕ} → Joins g.slots g.w1.now i u v → {g' : WorkingGraph}
+      → Changes g.slots (put (low_of g.w1.now i) (high_of g.w1.now i) 0 (graph_in g)) g g'
+      → (get_or g.w1.now i 0 ≡ graph_in g u v) × Changes g.slots (put u v 0 (graph_in g)) g g'
   freed_kill j c = (
-    sym (joins_points h j),
-    record { holds = c.holds; graph = c.graph ∙ joins_put j 0 (graph_of e w1); aside = c.aside },
+    sym (joins_points g.holds j),
+    record {
+      slots = c.slots;
+      graph = c.graph ∙ joins_put j 0 (graph_in g);
+      aside = c.aside;
+      buffers = c.buffers;
+    },
   )
 
 -- ---- a pair that is raised
 
-pub more_one : (a b : ℕ) → b < a → (1 ≡ ι (ltb b a)) × (1 ≤ 1)
-more_one a b l = (ap ι (sym (lt-ltb b a l)), omega arith)
+module _ {g g' : WorkingGraph} (u v : ℕ) (c : Changes g.slots (put u v 0 (graph_in g)) g g') where
+  pub free_unpaired : g.slots < 4096 → u ≢ v → u < 1024 → v < 1024 → Unpaired g' u v
+  free_unpaired f n lu lv = record {
+    free = omega (arith, c.slots);
+    apart = n;
+    first_below = lu;
+    last_below = lv;
+    none = at_pair c.graph u v ∙ put_at u v 0 (graph_in g);
+  }
 
-pub more_none : (a b : ℕ) → a ≤ b → (0 ≡ ι (ltb b a)) × (0 ≤ 1)
-more_none a b l = (ap ι (sym (le-ltb b a l)), omega arith)
-
-pub free_unpaired : {e : ℕ} {w1 w2 w2₀ : List ℕ} (u v : ℕ) (g : Points) → Changed e (put u v 0 g) w1 w2₀ w2 → e < 4096
-    → u ≢ v → u < 1024 → v < 1024 → Unpaired e w1 w2 u v
-free_unpaired u v g c f n lu lv = record {
-  holds = c.holds;
-  free = f;
-  apart = n;
-  first_below = lu;
-  last_below = lv;
-  none = at_pair c.graph u v ∙ put_at u v 0 g;
-}
-
-module _ {e : ℕ} (w1 : List ℕ) {w2 w1' w2' : List ℕ} (u v : ℕ)
-    (c : Changed e (put u v 0 (graph_of e w1)) w1' w2 w2') where
-  pub pair_raised : {p : ℕ} (k l : ℕ) → p ≡ graph_of e w1 u v → l ≡ max p k → {r : Raised} → r.slots ≤ e + 1
-      → r.more ≡ ι (ltb k p) → {w1'' w2'' : List ℕ} → Changed r.slots (put u v l (graph_of e w1')) w1'' w2' w2''
-      → PairRaised e w1 w2 w1'' w2'' u v k r
-  pair_raised {p} k l q b {r} s m d = record {
-    more = m ∙ ap (λ (x : ℕ). ι (ltb k x)) q;
-    slots = s;
-    changed = record {
-      holds = d.holds;
-      graph =
-          d.graph
-          ∙ ap (put u v l) c.graph
-          ∙ put_twice u v l 0 (graph_of e w1)
-          ∙ ap (λ (x : ℕ). put u v x (graph_of e w1)) (b ∙ ap (λ (x : ℕ). max x k) q);
-      aside = λ j i. d.aside j i ∙ c.aside j i;
-    };
+  pub pair_raised : {p : ℕ} (k l : ℕ) → p ≡ graph_in g u v → l ≡ max p k → {g'' : WorkingGraph}
+      → Changes g''.slots (put u v l (graph_in g')) g' g'' → g''.slots ≤ g'.slots + 1
+      → PairRaised g g'' u v k (ltb k p)
+  pair_raised {p} k l q b d s = record {
+    told = ap (ltb k) q;
+    slots = omega (arith, c.slots, s);
+    changes =
+        changes_on c d
+        (ap (put u v l) c.graph
+        ∙ put_twice u v l 0 (graph_in g)
+        ∙ ap (λ (x : ℕ). put u v x (graph_in g)) (b ∙ ap (λ (x : ℕ). max x k) q));
   }
 
 -- ---- the three pairs of a chain's ends
 
-module _ {e : ℕ} {w1 w2 : List ℕ} {u v z : ℕ} (h : EndsThere e w1 w2 u v z) {uv : ℕ} {r : Raised}
-    {w1a w2a : List ℕ} (p : PairRaised e w1 w2 w1a w2a u v uv r) where
+module _ {g g₁ : WorkingGraph} {x : Ends} (h : EndsThere g x) {more : Bool}
+    (p : PairRaised g g₁ x.u x.v x.uv more) where
   abbrev raised : Points
-  raised = put u v (max (graph_of e w1 u v) uv) (graph_of e w1)
+  raised = put x.u x.v (max (graph_in g x.u x.v) x.uv) (graph_in g)
 
-  raised_none : (c : ℕ) → graph_of e w1 c z ≡ 0 → raised c z ≡ 0
+  raised_none : (c : ℕ) → graph_in g c x.z ≡ 0 → raised c x.z ≡ 0
   raised_none c n =
-      put_beyond u v (max (graph_of e w1 u v) uv) (graph_of e w1) c z (λ q. h.first_apart (sym q))
+      put_beyond x.u x.v (max (graph_in g x.u x.v) x.uv) (graph_in g) c x.z (λ q. h.first_apart (sym q))
       (λ q. h.last_apart (sym q))
       ∙ n
 
-  pub ends_last : Unpaired r.slots w1a w2a v z
+  pub ends_last : Unpaired g₁ x.v x.z
   ends_last = record {
-    holds = p.changed.holds;
     free = omega (arith, p.slots, h.free);
     apart = h.last_apart;
     first_below = h.last_below;
     last_below = h.inner_below;
-    none = at_pair p.changed.graph v z ∙ raised_none v h.last_none;
+    none = at_pair p.changes.graph x.v x.z ∙ raised_none x.v h.last_none;
   }
 
-  module _ (vz : ℕ) {s : ℕ} {w1b w2b : List ℕ} (l : s ≤ r.slots + 1)
-      (q : Changed s (put v z vz (graph_of r.slots w1a)) w1b w2a w2b) where
-    second : graph_of s w1b ≡ put v z vz raised
-    second = q.graph ∙ ap (put v z vz) p.changed.graph
+  module _ {g₂ : WorkingGraph}
+      (q : Changes g₂.slots (put x.v x.z x.vz (graph_in g₁)) g₁ g₂) (l : g₂.slots ≤ g₁.slots + 1) where
+    second : Changes g₂.slots (put x.v x.z x.vz raised) g g₂
+    second = changes_on p.changes q (ap (put x.v x.z x.vz) p.changes.graph)
 
-    pub ends_first : Unpaired s w1b w2b u z
+    pub ends_first : Unpaired g₂ x.u x.z
     ends_first = record {
-      holds = q.holds;
       free = omega (arith, l, p.slots, h.free);
       apart = h.first_apart;
       first_below = h.first_below;
       last_below = h.inner_below;
       none =
-          at_pair second u z
-          ∙ put_away v z vz raised u h.ends_apart h.first_apart z
-          ∙ raised_none u h.first_none;
+          at_pair second.graph x.u x.z
+          ∙ put_away x.v x.z x.vz raised x.u h.ends_apart h.first_apart x.z
+          ∙ raised_none x.u h.first_none;
     }
 
-    pub ends_put : (uz : ℕ) {x : Raised} {w1c w2c : List ℕ} → x.more ≡ r.more
-        → Changed x.slots (put u z uz (graph_of s w1b)) w1c w2b w2c → EndsPut e w1 w2 w1c w2c u v z uv vz uz x
-    ends_put uz m d = record {
-      more = m ∙ p.more;
-      changed = record {
-        holds = d.holds;
-        graph = d.graph ∙ ap (put u z uz) second;
-        aside = λ j i. d.aside j i ∙ q.aside j i ∙ p.changed.aside j i;
-      };
+    pub ends_put : {g₃ : WorkingGraph} → Changes g₃.slots (put x.u x.z x.uz (graph_in g₂)) g₂ g₃
+        → EndsPut g g₃ x more
+    ends_put d = record {
+      told = p.told;
+      changes = changes_on second d (ap (put x.u x.z x.uz) second.graph);
     }

@@ -1,96 +1,74 @@
 // Inner, for the reduction: puts pairs in place of a row that was taken. See specs/Putting.
 #![tactic(auto)]
 
-ghost use Rattle.std.specs.Prelude.{◌≡◌, ◌≢◌, ◌+◌, ◌<◌, ◌≤◌, ltb};
-ghost use Rattle.matching.specs.Pairs.{ι};
+ghost use Rattle.std.specs.Prelude.{◌≡◌, ◌≢◌, ◌+◌, ◌<◌, ◌≤◌};
 ghost use Rattle.matching.specs.Graph.{put};
-ghost use Rattle.slots.specs.Slots.{Holds, graph_of, Changed};
+ghost use Rattle.slots.specs.Working.{graph_in, Changes};
 ghost use Rattle.putting.specs.Putting.{Unpaired, PairRaised, EndsThere, EndsPut};
 
-use rows;
-use slots::{change, read};
+use slots::graph::WorkingGraph;
 
-// The pair x, y, which has no points, gets the points w. The slots in use.
-pub fn put_pair(w1: &mut [u64], w2: &mut [u64], e: usize, x: usize, y: usize, w: u64) -> usize
-    requires { Unpaired e w1.old w2.old x y }
-    ensures { (result ≤ e + 1) × Changed result (put x y w (graph_of e w1.old))
-        w1.new w2.old w2.new }
+// The pair x, y, which has no points, gets the points w.
+pub fn put_pair(graph: &mut WorkingGraph, x: usize, y: usize, w: u64)
+    requires { Unpaired graph.old x y }
+    ensures { Changes graph.new.slots (put x y w (graph_in graph.old)) graph.old graph.new
+        × (graph.new.slots ≤ graph.old.slots + 1) }
 {
-    if w == 0 {
-        return e;
+    if w > 0 {
+        graph.append(x.min(y), x.max(y), w);
     }
-    if x < y {
-        change::append(w1, w2, e, x, y, w);
-        return e + 1;
-    }
-    change::append(w1, w2, e, y, x, w);
-    e + 1
-}
-
-// 1 where a is greater than b.
-fn exceeds(a: u64, b: u64) -> u64
-    ensures { (result ≡ ι (ltb b a)) × (result ≤ 1) }
-{
-    if b < a {
-        return 1;
-    }
-    0
 }
 
 // The pair u, v goes: the points that it had.
-fn free_pair(w1: &mut [u64], w2: &mut [u64], e: usize, u: usize, v: usize) -> u64
-    requires { (Holds e w1.old w2.old) × (u < 1024) × (v < 1024) }
-    ensures { (result ≡ graph_of e w1.old u v) × Changed e (put u v 0 (graph_of e w1.old))
-        w1.new w2.old w2.new }
+fn free_pair(graph: &mut WorkingGraph, u: usize, v: usize) -> u64
+    requires { (u < 1024) × (v < 1024) }
+    ensures { (result ≡ graph_in graph.old u v)
+        × Changes graph.old.slots (put u v 0 (graph_in graph.old)) graph.old graph.new }
 {
-    let s = read::find(w1, w2, e, u, v);
-    if s == 0 {
+    let Some(i) = graph.find(u, v) else {
         return 0;
-    }
-    let points = w1[s - 1];
-    change::kill(w1, w2, e, s - 1);
+    };
+    let points = graph.w1[i];
+    graph.kill(i);
     points
 }
 
-// After a pair was raised: the slots in use, and 1 where its points were greater already.
+// The pair u, v gets the larger of its points and k: whether its points were greater already.
+fn raise_pair(graph: &mut WorkingGraph, u: usize, v: usize, k: u64) -> bool
+    requires { (graph.old.slots < 4096) × (u ≢ v) × (u < 1024) × (v < 1024) }
+    ensures { PairRaised graph.old graph.new u v k result }
+{
+    let before = free_pair(graph, u, v);
+    put_pair(graph, u, v, before.max(k));
+    k < before
+}
+
+// The ends u, v of a chain and its cell z, with the points that their three pairs get.
 #[derive(Clone, Copy)]
-pub struct Raised {
-    pub slots: usize,
-    pub more: u64,
+pub struct Ends {
+    pub u: usize,
+    pub v: usize,
+    pub z: usize,
+    pub uv: u64,
+    pub vz: u64,
+    pub uz: u64,
 }
 
-// The pair u, v gets the larger of its points and k.
-fn raise_pair(w1: &mut [u64], w2: &mut [u64], e: usize, u: usize, v: usize, k: u64) -> Raised
-    requires { (Holds e w1.old w2.old) × (e < 4096) × (u ≢ v) × (u < 1024) × (v < 1024) }
-    ensures { PairRaised e w1.old w2.old w1.new w2.new u v k result }
+// The three pairs get their points, but u, v no fewer than it had: whether it had more already.
+pub fn put_ends(graph: &mut WorkingGraph, ends: Ends) -> bool
+    requires { EndsThere graph.old ends }
+    ensures { EndsPut graph.old graph.new ends result }
 {
-    let before = free_pair(w1, w2, e, u, v);
-    let slots = put_pair(w1, w2, e, u, v, rows::larger(before, k));
-    Raised {
-        slots,
-        more: exceeds(before, k),
-    }
-}
-
-// The three pairs of a chain's ends u, v and its cell z get their points.
-pub fn put_ends(
-    w1: &mut [u64],
-    w2: &mut [u64],
-    e: usize,
-    u: usize,
-    v: usize,
-    z: usize,
-    uv: u64,
-    vz: u64,
-    uz: u64,
-) -> Raised
-    requires { EndsThere e w1.old w2.old u v z }
-    ensures { EndsPut e w1.old w2.old w1.new w2.new
-        u v z uv vz uz result }
-{
-    let raised = raise_pair(w1, w2, e, u, v, uv);
-    let more = raised.more;
-    let with_v = put_pair(w1, w2, raised.slots, v, z, vz);
-    let slots = put_pair(w1, w2, with_v, u, z, uz);
-    Raised { slots, more }
+    let Ends {
+        u,
+        v,
+        z,
+        uv,
+        vz,
+        uz,
+    } = ends;
+    let more = raise_pair(graph, u, v, uv);
+    put_pair(graph, v, z, vz);
+    put_pair(graph, u, z, uz);
+    more
 }

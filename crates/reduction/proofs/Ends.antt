@@ -1,11 +1,13 @@
--- The end of a call. In order: the short list of the graph whose pairs stand as rows and cells, its length, refused or
--- written by the output's room; the slip of the steps that stand as words, likewise (`taken_length`, `slip_file_is`);
--- both files, of which neither is written where one has no room. Assumes nothing.
+-- The end of a call. In order: the short list of the graph whose pairs stand as rows and cells, and its length
+-- (`left_rows`, `left_fits`, `left_length`); the slip of the steps that stand as words, likewise (`names_many`,
+-- `taken_length`, `slip_file_is`); both files, of which neither is written where one has no room (`both_first`,
+-- `both_second`, `both_written`). Assumes nothing.
 use mathlib.Core.Path.{◌≡◌, refl, ap, ◌∙◌}
 use mathlib.Core.List.{List, [], ◌∷◌, map}
-use Prim.Native.Nat.{ℕ, ◌+◌, ◌*◌, ◌-◌, ◌≤◌, ◌<◌}
+use Prim.Native.Nat.{ℕ, ◌+◌, ◌-◌, ◌≤◌, ◌<◌}
 use native.Mathlib.Omega.{arith}
 use lib.ListN.{length, get_or, take, drop, length-map, length-drop}
+use lib.Seq.{length-take-le}
 use Rattle.buffers.specs.Map.{at_names}
 use Rattle.matching.specs.Lists.{All}
 use Rattle.matching.specs.Listed.{Entry, short_list}
@@ -13,19 +15,18 @@ use Rattle.matching.specs.Steps.{Rule, by_leaf, by_ring, by_chain, Step, name}
 use Rattle.matching.proofs.Alls.{all_map}
 use Rattle.matching.proofs.Short.{EntryOf, short_entries}
 use Rattle.matching.proofs.More.{short_more}
-use Rattle.cellfile.specs.Files.{slip as slip_layout, short_list as short_layout, write_file, onto, as_fields}
+use Rattle.cellfile.specs.Files.{slip as slip_layout, short_list as short_layout, write_file, file_length, onto, as_fields}
 use Rattle.cellfile.specs.Files.{number_of}
 use Rattle.cellfile.specs.Files.{name_fields}
-use Rattle.cellfile.specs.Words.{file_of, name_word, no_entry, RowsOf, RowsFit}
+use Rattle.cellfile.specs.Words.{file_of, words_file, name_word, no_entry, RowsOf, RowsFit}
 use Rattle.cellfile.proofs.Outputs.{plain_slip, words_length, records_file}
 use Rattle.cellfile.proofs.RoundTrip.{length_file}
-use Rattle.cellfile.proofs.Walk.{from_place}
 use Rattle.slots.specs.Slots.{graph_of}
 use Rattle.running.specs.Pairs.{PairsLeft}
 use Rattle.running.proofs.Inserting.{all_place}
 use Rattle.reduction.specs.Writing.{left_file, taken_file}
 use Rattle.checks.specs.Answering.{Does}
-use Rattle.checks.proofs.Answering.{no_room, all_room, one_refused, one_written}
+use Rattle.checks.proofs.Answering.{no_room, all_room}
 
 -- ---- the short list
 
@@ -53,28 +54,27 @@ module _ {n e r : ℕ} {w1 v1 : List ℕ} (h : PairsLeft n e w1) (q : RowsOf (sh
     abbrev file : List ℕ
     file = left_file n points (graph_of e w1)
 
-    left_length : 12 + 8 * r ≡ length file
-    left_length =
+    pub left_length : {size : ℕ} → size ≡ file_length short_layout n r → size ≡ length file
+    left_length {size} e =
         omega (
           arith,
+          e,
           left_rows.count,
           length-map es as_fields,
           length_file short_layout (record { cells = n; extra = points ∷ []; entries = map as_fields es }),
         )
 
-    pub left_refused : (out : List ℕ) → length out < 12 + 8 * r → Does [] ((file, out, out) ∷ []) (12, [])
-    left_refused out l = one_refused file out left_length l
-
-    pub left_written : (out : List ℕ) {out' : List ℕ} → 12 + 8 * r ≤ length out → out' ≡ onto file out
-        → Does [] ((file, out, out') ∷ []) (0, (12 + 8 * r) ∷ [])
-    left_written out l w = one_written file out left_length l w
-
 -- ---- the slip
 
-taken_length : (n : ℕ) {steps : ℕ} (w2 : List ℕ) → steps ≤ 1024 → 8192 ≤ length w2
-    → 4 + 2 * steps ≡ length (taken_file n steps w2)
-taken_length n {steps} w2 l r =
-    words_length plain_slip n steps (drop at_names w2) (omega (arith, length-drop at_names w2))
+module _ (n steps : ℕ) (w2 : List ℕ) (few : steps ≤ 1024) (words : 8192 ≤ length w2) where
+  named_length : steps ≤ length (drop at_names w2)
+  named_length = omega (arith, length-drop at_names w2)
+
+  pub names_many : length (take steps (drop at_names w2)) ≡ steps
+  names_many = length-take-le steps (drop at_names w2) named_length
+
+  pub taken_length : {size : ℕ} → size ≡ file_length slip_layout n steps → size ≡ length (taken_file n steps w2)
+  taken_length e = e ∙ words_length plain_slip n steps (drop at_names w2) named_length
 
 number_fits : (r : Rule) → number_of r < 64
 number_fits by_leaf = omega arith
@@ -91,33 +91,34 @@ slip_file_is n steps w2 ss e h =
 -- ---- both files
 
 module _ {n e r steps : ℕ} {w1 v1 : List ℕ} (w2 : List ℕ) (points : ℕ) (h : PairsLeft n e w1) (few : steps ≤ 1024)
-    (words : 8192 ≤ length w2) (q : RowsOf (short_list 1024 (graph_of e w1)) r v1) (slip short : List ℕ) where
+    (words : 8192 ≤ length w2) (q : RowsOf (short_list 1024 (graph_of e w1)) r v1) (slip short : List ℕ)
+    {size other : ℕ} (c : size ≡ file_length slip_layout n steps) (d : other ≡ file_length short_layout n r) where
   abbrev taken : List ℕ
   taken = taken_file n steps w2
 
   abbrev left : List ℕ
   left = left_file n points (graph_of e w1)
 
-  pub both_first : length slip < 4 + 2 * steps → Does [] ((taken, slip, slip) ∷ (left, short, short) ∷ []) (12, [])
+  pub both_first : length slip < size → Does [] ((taken, slip, slip) ∷ (left, short, short) ∷ []) (12, [])
   both_first l =
-      no_room [] (taken, slip, slip) ((left, short, short) ∷ []) (omega (arith, taken_length n w2 few words))
+      no_room [] (taken, slip, slip) ((left, short, short) ∷ []) (omega (arith, taken_length n steps w2 few words c, l))
       (refl, (refl, tt))
 
-  pub both_second : length short < 12 + 8 * r → Does [] ((taken, slip, slip) ∷ (left, short, short) ∷ []) (12, [])
+  pub both_second : length short < other → Does [] ((taken, slip, slip) ∷ (left, short, short) ∷ []) (12, [])
   both_second l =
-      no_room ((taken, slip, slip) ∷ []) (left, short, short) [] (omega (arith, left_length h q points))
+      no_room ((taken, slip, slip) ∷ []) (left, short, short) [] (omega (arith, left_length h q points d, l))
       (refl, (refl, tt))
 
-  pub both_written : {slip' short' : List ℕ} → 4 + 2 * steps ≤ length slip → 12 + 8 * r ≤ length short
+  pub both_written : {slip' short' : List ℕ} → size ≤ length slip → other ≤ length short
       → slip' ≡ onto (write_file slip_layout
-      (file_of slip_layout n [] (take steps (take (length w2 - at_names) (drop at_names w2))))) slip
+      (file_of slip_layout n [] (take (at_names + steps - at_names) (drop at_names w2)))) slip
       → short' ≡ onto left short
-      → Does [] ((taken, slip, slip') ∷ (left, short, short') ∷ []) (0, (4 + 2 * steps) ∷ (12 + 8 * r) ∷ [])
+      → Does [] ((taken, slip, slip') ∷ (left, short, short') ∷ []) (0, size ∷ other ∷ [])
   both_written {slip'} {short'} l k a b =
-      rw (taken_length n w2 few words, left_length h q points)
+      rw (taken_length n steps w2 few words c, left_length h q points d)
       (all_room ((taken, slip, slip') ∷ (left, short, short') ∷ [])
-      (omega (arith, taken_length n w2 few words), (omega (arith, left_length h q points), tt)) (
-        a ∙ ap (λ (vs : List ℕ). onto (write_file slip_layout (file_of slip_layout n [] (take steps vs))) slip)
-            (from_place at_names w2),
-        (b, tt),
-      ))
+      (omega (arith, taken_length n steps w2 few words c, l), (omega (arith, left_length h q points d, k), tt))
+      (a ∙ ap (λ (k : ℕ). onto (words_file slip_layout n k (drop at_names w2)) slip) as_many, (b, tt)))
+    where
+      as_many : at_names + steps - at_names ≡ steps
+      as_many = omega arith

@@ -23,6 +23,7 @@ use Rattle.reduction.specs.Writing.{left_file, taken_file}
 use Rattle.checks.specs.Calls.{call_rows}
 use Rattle.checks.specs.Answering.{Does}
 use Rattle.starting.specs.Starting.{StartDone}
+use Rattle.starting.specs.declared.Started.{Started}
 use Rattle.checks.proofs.Answering.{passed}
 use Rattle.starting.proofs.OnList.{list_graph, left_there, steps_few, steps_below}
 use Rattle.reduction.proofs.Ends.{slip_file_is}
@@ -32,15 +33,15 @@ pub reduce_allowed : (list : List ℕ) → first (list_rows lists list) ≡ 0
     → replay (cells_of list) (graph_in list) (map name (reduce_steps list)) ≡ some (reduce_steps list)
 reduce_allowed list h = reduce_replay (cells_of list) (list_graph list h)
 
-module _ (list : List ℕ) {n slots trail points steps : ℕ} {w1' w2' : List ℕ}
-    (d : StartDone list (some (reduce_steps list)) n slots trail points steps w1' w2') where
+module _ (list : List ℕ) {at : Started} {w1' w2' : List ℕ}
+    (d : StartDone list (some (reduce_steps list)) at w1' w2') where
   abbrev ss : List Step
   ss = reduce_steps list
 
   -- the steps taken are those of reduce
-  pub reduce_after : After (graph_in list) ss slots trail points steps w1' w2'
+  pub reduce_after : After (graph_in list) ss at.slots at.trail at.carried at.steps w1' w2'
   reduce_after =
-      subst (λ (ts : List Step). After (graph_in list) ts slots trail points steps w1' w2')
+      subst (λ (ts : List Step). After (graph_in list) ts at.slots at.trail at.carried at.steps w1' w2')
       (ap there (sym d.steps_are)) d.after
     where
       there : Option (List Step) → List Step
@@ -49,28 +50,28 @@ module _ (list : List ℕ) {n slots trail points steps : ℕ} {w1' w2' : List �
   allowed : replay (cells_of list) (graph_in list) (map name ss) ≡ some ss
   allowed = reduce_allowed list d.accepted
 
-  pub reduce_left : PairsLeft n slots w1' × (steps ≤ 1024) × (8192 ≤ length w2')
+  pub reduce_left : PairsLeft at.n at.slots w1' × (at.steps ≤ 1024) × (8192 ≤ length w2')
   reduce_left = (
     left_there list d.accepted (map name ss) ss allowed d.cells reduce_after,
     omega (arith, reduce_after.count, steps_few list d.accepted (map name ss) ss allowed),
     (holds_room reduce_after.holds).1,
   )
 
-  slip_same : taken_file n steps w2' ≡ slip_file list ss
+  slip_same : taken_file at.n at.steps w2' ≡ slip_file list ss
   slip_same =
-      slip_file_is n steps w2' ss reduce_after.names (steps_below list d.accepted (map name ss) ss allowed)
+      slip_file_is at.n at.steps w2' ss reduce_after.names (steps_below list d.accepted (map name ss) ss allowed)
       ∙ ap (λ (i : ℕ). write_file slip_layout (record { cells = i; extra = []; entries = map name_fields ss }))
       d.cells
 
-  pub reduce_passed : (few : Bool) → first (call_rows few list) ≡ 0
+  pub reduce_passed : (few : Bool) → 0 ≡ first (call_rows few list)
       → (slip short : List ℕ) {slip' short' : List ℕ} {a : Answer}
-      → Does [] ((taken_file n steps w2', slip, slip')
-      ∷ (left_file n points (graph_of slots w1'), short, short') ∷ []) a
+      → Does [] ((taken_file at.n at.steps w2', slip, slip')
+      ∷ (left_file at.n at.carried (graph_of at.slots w1'), short, short') ∷ []) a
       → Does (call_rows few list) ((slip_file list ss, slip, slip') ∷ (short_file list ss, short, short') ∷ []) a
   reduce_passed few z slip short {slip'} {short'} {a} p =
       passed (call_rows few list) [] (omega arith) z
       (subst (λ (f : List ℕ). Of (slip_file list ss) f) (left_file_is list ss d.cells reduce_after)
-      (subst (λ (f : List ℕ). Of f (left_file n points (graph_of slots w1'))) slip_same p))
+      (subst (λ (f : List ℕ). Of f (left_file at.n at.carried (graph_of at.slots w1'))) slip_same p))
     where
       Of : List ℕ → List ℕ → Type 0
       Of f g = Does [] ((f, slip, slip') ∷ (g, short, short') ∷ []) a

@@ -1,18 +1,19 @@
--- Laws of numbers in base ten. In order: how long they are (`decimal_few`), with a space before (`number_few`) and in
--- lines (`numbers_few`, `pair_line_few`); the fewest digits, which io::decimal gives, are at most 20 (`fewest_few`) and
--- are those of `decimal` (`decimal_is`); read back they give the number (`decimal_value`), and no zero stands in front
--- (`decimal_front`). Assumes nothing.
+-- Laws of numbers in base ten. In order: how long they are (`decimal_few`), and in lines (`numbers_few`,
+-- `pair_line_few`); they are what is printed of a number (`decimal_is`), and it is put with a space before it
+-- (`number_put`); read back they give the number (`decimal_value`), and no zero stands in front (`decimal_front`).
+-- Assumes nothing.
 use Prim.Native.Nat.{ℕ, zero, suc, ◌+◌, ◌*◌, ◌-◌, ◌/◌, ◌%◌, ◌^◌, ◌≤◌, ◌<◌}
-use mathlib.Core.Path.{◌≡◌, refl, subst, ◌∙◌}
+use mathlib.Core.Path.{◌≡◌, refl, sym, ◌∙◌}
 use mathlib.Core.Bool.{Bool, cond}
-use mathlib.Core.List.{List, [], ◌∷◌, ◌++◌}
+use mathlib.Core.List.{List, [], ◌∷◌, ◌++◌, append_assoc}
 use native.Mathlib.Omega.{arith}
-use native.Mathlib.Nat.{pow-suc, pow-zero, pow-le-pow_right, one-le-pow, mul-suc}
+use native.Mathlib.Nat.{pow-suc, pow-zero, mul-suc}
 use lib.ListN.{length, get_or, length-append}
 use lib.Dec.{ltb}
 use borrow.Author.Tests.{lt-ltb, le-ltb}
-use Rattle.io.specs.Digits.{hex_digit_ascii, last_digits as spelt, IsDigitCount}
-use Rattle.matching.proofs.Tests.{Test, pass, fail, lt_test, le_test}
+use Rattle.std.specs.Fmt.{decimal as printed}
+use Rattle.std.proofs.lemmas.Fmt.{AppendsLastDigit, decimal_from_appends, length-decimal-le}
+use Rattle.matching.proofs.Tests.{Test, pass, fail, lt_test}
 use Rattle.report.specs.Printed.{digits, decimal, numbers, line}
 
 -- ---- how long
@@ -29,9 +30,6 @@ digits_few (suc k) v = go (lt_test v 10) (digits_few k (v / 10)) where
 pub decimal_few : (v : ℕ) → length (decimal v) ≤ 20
 decimal_few v = digits_few 20 v
 
-pub number_few : (v : ℕ) → length (32 ∷ decimal v) ≤ 21
-number_few v = omega (arith, decimal_few v)
-
 pub numbers_few : (vs : List ℕ) → length (numbers vs) ≤ 1 + 21 * length vs
 numbers_few [] = omega arith
 numbers_few (v ∷ vs) =
@@ -40,38 +38,26 @@ numbers_few (v ∷ vs) =
 pub pair_line_few : (a b p : ℕ) → length (line "pair" (a ∷ b ∷ p ∷ [])) ≤ 68
 pair_line_few a b p = let h = numbers_few (a ∷ b ∷ p ∷ []) in omega arith
 
--- ---- the digits of io::decimal
+-- ---- the digits that are printed
 
-glyph_is : (d : ℕ) → d < 10 → hex_digit_ascii d ≡ 48 + d
-glyph_is d l = rw (lt-ltb d 10 l)
-
--- r + 1 are the fewest digits of v
-digits_is : (k r v : ℕ) → r < k → v < 10 ^ suc r → (0 < r → 10 ^ r ≤ v) → spelt 10 (suc r) v ≡ digits k v
+digits_appends : AppendsLastDigit digits
 unfolding digits
-digits_is zero r v b u l = elim b [ ]
-digits_is (suc k) zero v b u l = rw (lt-ltb v 10 u, glyph_is (v % 10) (omega arith))
-digits_is (suc k) (suc r) v b u l =
-    let high : 10 ^ r * 10 ≤ v = rw (← pow-suc 10 r) (l (omega arith)) in
-    let low : v < 10 ^ suc r * 10 = rw (← pow-suc 10 (suc r)) u in
-    rw (
-      le-ltb v 10 (omega (arith, one-le-pow r 10 (omega arith))),
-      glyph_is (v % 10) (omega arith),
-      digits_is k r (v / 10) (omega arith) (omega arith) (λ h. omega arith),
-    )
+digits_appends =
+    record {
+      one = λ k n l. let e : n % 10 ≡ n = omega arith in rw (lt-ltb n 10 l, e);
+      more = λ k n l. rw (le-ltb n 10 l);
+    }
 
-pub fewest_few : (v r : ℕ) → v < 18446744073709551616 → IsDigitCount 10 1 v r → r ≤ 20
-fewest_few v r h (_, _, s) = go (le_test r 20) where
-  go : {t : Bool} → Test (r ≤ 20) (20 < r) t → r ≤ 20
-  go (pass p) = p
-  go (fail n) =
-      let high : 10 ^ 20 ≤ 10 ^ (r - 1) = pow-le-pow_right {n = 10} (omega arith) {i = 20} {j = r - 1} (omega arith) in
-      absurd (omega (arith, high, s (omega arith)))
+pub decimal_is : (v : ℕ) → v < 2 ^ 64 → printed v ≡ decimal v
+decimal_is v h =
+    sym (decimal_from_appends digits digits_appends 20 v h (length-decimal-le 20 v (omega arith) (omega arith) h))
 
-pub decimal_is : (v r : ℕ) → v < 18446744073709551616 → IsDigitCount 10 1 v r → spelt 10 r v ≡ decimal v
-decimal_is v zero h (l, _, _) = absurd (omega arith)
-decimal_is v (suc r) h f =
-    let e : suc r - 1 ≡ r = omega arith in
-    digits_is 20 r v (fewest_few v (suc r) h f) f.1 (λ l. subst (λ (n : ℕ). 10 ^ n ≤ v) e (f.2 (omega arith)))
+-- a text with a space and the number behind it, and the rest of the line
+pub number_put : (t : List ℕ) {t1 t2 bytes : List ℕ} (v : ℕ) (rest : List ℕ) → v < 2 ^ 64 → t1 ≡ t ++ 32 ∷ []
+    → bytes ≡ printed v → t2 ≡ t1 ++ bytes → t2 ++ numbers rest ≡ t ++ numbers (v ∷ rest)
+number_put t v rest h e b f =
+    rw (f, e, b, decimal_is v h)
+    (append_assoc (t ++ 32 ∷ []) (decimal v) (numbers rest) ∙ append_assoc t (32 ∷ []) (decimal v ++ numbers rest))
 
 -- ---- what the digits are
 

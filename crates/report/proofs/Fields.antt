@@ -17,12 +17,11 @@ use Rattle.matching.proofs.Demand.{short_fewer}
 use Rattle.cellfile.specs.Bytes.{number}
 use Rattle.cellfile.specs.Fields.{packed, write_record, write_records}
 use Rattle.cellfile.specs.Files.{pairing as pairing_layout, slip as slip_layout, short_list as short_layout, in_view}
-use Rattle.cellfile.specs.Files.{header, cells_of, count_of, pairs_of, name_fields, as_fields, pair_fields}
+use Rattle.cellfile.specs.Files.{header, cells_of, pairs_of, name_fields, as_fields, pair_fields}
 use Rattle.cellfile.proofs.Bytes.{number_bytes}
 use Rattle.cellfile.proofs.Fields.{length_write_record}
 use Rattle.cellfile.proofs.Lists.{view_all}
 use Rattle.cellfile.proofs.RoundTrip.{length_file}
-use Rattle.cellfile.proofs.Walk.{pairs_count}
 use Rattle.checks.specs.Refusals.{first, lists, list_rows}
 use Rattle.checks.proofs.Accepted.{accepted_list}
 use Rattle.starting.specs.Steps.{graph_in, reduce_steps}
@@ -150,13 +149,10 @@ module _ (list : List ℕ) (h : first (list_rows lists list) ≡ 0) where
       (origins (graph_in list) ss (solution n (graph_after list ss)))
 
   -- the list and the pairing, as the loop over the pairs finds them
-  pub pairs_there : {m : ℕ} → m ≡ count_of list
-      → LinesThere list m (pairing_file list) ((length (pairing_file list) - 4) / 3)
-  pairs_there e = record {
+  pub pairs_there : LinesThere list (pairing_file list)
+  pairs_there = record {
     accepted = h;
     formed = file_formed few (all_entries list h) brought (pairing_pairing list h);
     held = subst (λ xs. Each (λ a b. 0 < joined xs a b) ps) (view_all list)
         (file_pairing few (all_entries list h) brought (pairing_pairing list h)).held;
-    entries = e;
-    pairs = omega (arith, pairs_length, pairs_count (pairing_file list));
   }

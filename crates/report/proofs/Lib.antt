@@ -1,6 +1,4 @@
 -- The laws of the printed text.
-pub mod Appending
-pub mod Putting
 pub mod Decimal
 pub mod Lines
 pub mod Fields

@@ -1,51 +1,37 @@
--- The text of an accepted list, from its parts. In order: how long its lines are, and the sum of the points; that the
--- pairs' lines may be written (`lines_there`), and where they end; all parts together (`text_made`). Assumes nothing.
+-- The text of an accepted list, from its parts. In order: that they may be put (`lengths_least`, `count_few`,
+-- `lines_there`), and what they make together (`text_made`). Assumes nothing.
 use mathlib.Core.Path.{◌≡◌, refl, ap, ◌∙◌}
-use mathlib.Core.List.{List, [], ◌∷◌, ◌++◌}
-use Prim.Native.Nat.{ℕ, ◌+◌, ◌*◌, ◌-◌, ◌/◌, ◌≤◌}
+use mathlib.Core.List.{List, [], ◌∷◌, ◌++◌, append_assoc}
+use Prim.Native.Nat.{ℕ, ◌+◌, ◌-◌, ◌/◌, ◌≤◌}
 use native.Mathlib.Omega.{arith}
-use lib.ListN.{length, drop, length-append, length-map}
+use lib.ListN.{length, drop}
 use Rattle.matching.specs.Pairs.{Pair}
 use Rattle.matching.specs.Listed.{Entry, listed, points, total, short_list}
 use Rattle.matching.specs.Slip.{carried}
 use Rattle.cellfile.specs.Bytes.{number}
-use Rattle.cellfile.specs.Files.{cells_of, count_of, pairs_of, entries_all}
+use Rattle.cellfile.specs.Files.{list_layout, pairing as pairing_layout, cells_of, count_of, pairs_of, entries_all}
+use Rattle.cellfile.specs.Reads.{WholeFile}
+use Rattle.cellfile.proofs.Walk.{pairs_count}
+use Rattle.checks.proofs.Rows.{bad_pairing_none}
+use Rattle.checks.proofs.Accepted.{list_fits}
 use Rattle.starting.specs.Steps.{graph_in, reduce_steps}
 use Rattle.reduction.specs.Calls.{short_file}
 use Rattle.lifting.specs.Calls.{graph_after, pairing_file}
-use Rattle.report.specs.Printed.{ascii, numbers, line, pair_lines, report, with_points, made}
-use Rattle.report.specs.Writing.{Appended, Made, LinesThere, LinesOf, ReducedThere}
-use Rattle.report.specs.declared.pairs.Lines.{Lines}
-use Rattle.report.proofs.Appending.{append_both, append_made, append_is}
-use Rattle.report.proofs.Decimal.{numbers_few, pair_line_few}
+use Rattle.report.specs.Printed.{line, pair_lines, report, with_points, made}
+use Rattle.report.specs.Writing.{LinesThere, ReducedThere}
 use Rattle.report.proofs.Fields.{files_least, steps_printed, entries_printed, carried_printed, pairs_few}
 use Rattle.report.proofs.Fields.{pairs_length, pairs_there}
 
--- ---- lengths and sums
-
-lines_few : (es : List Entry) → length (pair_lines es) ≤ 68 * length es
-lines_few [] = omega arith
-lines_few (e ∷ es) =
-    omega (
-      arith,
-      length-append (line "pair" (e.0 ∷ e.1 ∷ e.2 ∷ [])) (pair_lines es),
-      pair_line_few e.0 e.1 e.2,
-      lines_few es,
-    )
+-- ---- the parts together
 
 total_points : (es : List Entry) (ps : List Pair) → total (with_points es ps) ≡ points es ps
 total_points es [] = refl
 total_points es (p ∷ ps) = ap (λ (v : ℕ). listed es p.0 p.1 + v) (total_points es ps)
 
--- a line of a word of at most 7 letters
-line_few : (word : List ℕ) (v : ℕ) → length word ≤ 7 → length (word ++ numbers (v ∷ [])) ≤ 29
-line_few word v l = omega (arith, l, length-append word (numbers (v ∷ [])), numbers_few (v ∷ []))
-
-pub line_ends : (word : List ℕ) (v : ℕ) {t t' : List ℕ} {at end : ℕ} → length word ≤ 7
-    → Appended t at (word ++ numbers (v ∷ [])) t' end → end ≤ at + 29
-line_ends word v l p = omega (arith, p.end_is, line_few word v l)
-
--- ---- the parts together
+-- five parts, put one behind the other
+five_parts : (a b c d e : List ℕ) → (((a ++ b) ++ c) ++ d) ++ e ≡ a ++ (b ++ (c ++ (d ++ e)))
+five_parts a b c d e =
+    append_assoc ((a ++ b) ++ c) d e ∙ append_assoc (a ++ b) c (d ++ e) ∙ append_assoc a b (c ++ (d ++ e))
 
 module _ (list : List ℕ) {slip_length : ℕ} {short : List ℕ} (r : ReducedThere list slip_length short) where
   abbrev es : List Entry
@@ -64,10 +50,7 @@ module _ (list : List ℕ) {slip_length : ℕ} {short : List ℕ} (r : ReducedTh
   abbrev left_entries : ℕ
   left_entries = length (short_list (cells_of list) (graph_after list (reduce_steps list)))
 
-  module _ {pairing : List ℕ} (is : pairing ≡ pairing_file list) {m : ℕ} (count : m ≡ count_of list) where
-    abbrev k : ℕ
-    k = (length pairing - 4) / 3
-
+  module _ {pairing : List ℕ} (is : pairing ≡ pairing_file list) where
     -- the pairs with their points
     abbrev lined : List Entry
     lined = with_points es (pairs_of pairing)
@@ -82,58 +65,44 @@ module _ (list : List ℕ) {slip_length : ℕ} {short : List ℕ} (r : ReducedTh
         let b : length short ≡ length (short_file list (reduce_steps list)) = ap length r.short_is in
         (omega (arith, a, pairs_length list r.accepted), omega (arith, f, r.slip_is), omega (arith, f, b))
 
-    pub count_few : k ≤ 512
-    count_few =
-        let c : length pairing ≡ length (pairing_file list) = ap length is in
-        omega (arith, pairs_length list r.accepted, pairs_few list r.accepted, c)
+    pub count_few : count_of pairing ≤ 512
+    count_few = omega (arith, ap count_of is, pairs_count (pairing_file list), pairs_few list r.accepted)
 
-    pub lines_there : LinesThere list m pairing k
-    lines_there = rw is (pairs_there list r.accepted count)
+    pub lines_there : LinesThere list pairing
+    lines_there = rw is (pairs_there list r.accepted)
 
-    pub lines_end : {t t' : List ℕ} {at : ℕ} {l : Lines} → LinesOf lined t at t' l → l.end ≤ at + 34816
-    lines_end {l = l} p =
-        omega (
-          arith,
-          p.lines.end_is,
-          ap (λ (x : List Entry). length (pair_lines x)) lined_is,
-          lines_few (with_points es ps),
-          length-map {B = Entry} ps (λ (p : Pair). (p.0, p.1, listed es p.0 p.1)),
-          pairs_few list r.accepted,
-        )
+    -- the files are long enough
+    pub list_whole : WholeFile (list_layout list) list (count_of list)
+    list_whole = record { count = refl; long = omega (arith, (list_fits list r.accepted).2) }
 
-    pub text_made : {t0 t1 t2 t3 t4 t5 : List ℕ} {e1 e2 e3 e5 : ℕ} {l : Lines} {carry : ℕ}
-        → carry ≡ number 8 (drop 4 short)
-        → Appended t0 0 (ascii "steps" ++ numbers ((slip_length - 4) / 2 ∷ [])) t1 e1
-        → Appended t1 e1 (ascii "carried" ++ numbers (carry ∷ [])) t2 e2
-        → Appended t2 e2 (ascii "short" ++ numbers ((length short - 12) / 8 ∷ [])) t3 e3
-        → LinesOf lined t3 e3 t4 l
-        → Appended t4 l.end (ascii "total" ++ numbers (l.total ∷ [])) t5 e5
-        → 36864 ≤ length t0 → Made (made list) t5 e5
-    text_made {t0} {t5 = t5} {e5 = e5} {l} {carry} c p1 p2 p3 p4 p5 long = append_made (append_is same all) ends
+    pub pairing_whole : WholeFile pairing_layout pairing (count_of pairing)
+    pairing_whole = record {
+      count = refl;
+      long = omega (arith, (bad_pairing_none (cells_of list) pairing lines_there.formed).0);
+    }
+
+    -- where a step has `two` bytes and an entry of the short list `eight`
+    pub text_made : {two eight : ℕ} → two ≡ 2 → eight ≡ 8 → {t0 t1 t2 t3 t4 t5 : List ℕ} {carry sum : ℕ}
+        → carry ≡ number 8 (drop 4 short) → t0 ≡ [] → t1 ≡ t0 ++ line "steps" ((slip_length - 4) / two ∷ [])
+        → t2 ≡ t1 ++ line "carried" (carry ∷ []) → t3 ≡ t2 ++ line "short" ((length short - 12) / eight ∷ [])
+        → t4 ≡ t3 ++ pair_lines lined → sum ≡ total lined → t5 ≡ t4 ++ line "total" (sum ∷ []) → t5 ≡ made list
+    text_made {two} {eight} two_is eight_is {t5 = t5} {carry} {sum} c e0 e1 e2 e3 e4 s e5 = all ∙ same
       where
-        all : Appended t0 0 (report ((slip_length - 4) / 2) carry ((length short - 12) / 8) lined l.total) t5 e5
-        all = append_both p1 (append_both p2 (append_both p3 (append_both p4.lines p5)))
+        all : t5 ≡ report ((slip_length - 4) / two) carry ((length short - 12) / eight) lined sum
+        all =
+            rw (e5, e4, e3, e2, e1, e0)
+            (five_parts (line "steps" ((slip_length - 4) / two ∷ [])) (line "carried" (carry ∷ []))
+            (line "short" ((length short - 12) / eight ∷ [])) (pair_lines lined) (line "total" (sum ∷ [])))
 
-        same : report ((slip_length - 4) / 2) carry ((length short - 12) / 8) lined l.total ≡ made list
+        same : report ((slip_length - 4) / two) carry ((length short - 12) / eight) lined sum ≡ made list
         same =
-            ap (λ (v : ℕ). report v carry ((length short - 12) / 8) lined l.total)
-            (steps_printed list r.accepted r.slip_is)
-            ∙ ap (λ (v : ℕ). report steps v ((length short - 12) / 8) lined l.total)
+            ap (λ (v : ℕ). report v carry ((length short - 12) / eight) lined sum)
+            (ap (λ (k : ℕ). (slip_length - 4) / k) two_is ∙ steps_printed list r.accepted r.slip_is)
+            ∙ ap (λ (v : ℕ). report steps v ((length short - 12) / eight) lined sum)
             (c ∙ ap (λ (s : List ℕ). number 8 (drop 4 s)) r.short_is ∙ carried_printed list r.accepted)
-            ∙ ap (λ (v : ℕ). report steps moved v lined l.total)
-            (ap (λ (s : List ℕ). (length s - 12) / 8) r.short_is ∙ entries_printed list r.accepted)
-            ∙ ap (λ (x : List Entry). report steps moved left_entries x l.total) lined_is
+            ∙ ap (λ (v : ℕ). report steps moved v lined sum)
+            (ap (λ (k : ℕ). (length short - 12) / k) eight_is
+            ∙ ap (λ (s : List ℕ). (length s - 12) / 8) r.short_is ∙ entries_printed list r.accepted)
+            ∙ ap (λ (x : List Entry). report steps moved left_entries x sum) lined_is
             ∙ ap (λ (v : ℕ). report steps moved left_entries (with_points es ps) v)
-            (p4.sum_is ∙ ap total lined_is ∙ total_points es ps)
-
-        ends : e5 ≤ length t0
-        ends =
-            omega (
-              arith,
-              long,
-              line_ends (ascii "steps") ((slip_length - 4) / 2) (omega arith) p1,
-              line_ends (ascii "carried") carry (omega arith) p2,
-              line_ends (ascii "short") ((length short - 12) / 8) (omega arith) p3,
-              lines_end p4,
-              line_ends (ascii "total") l.total (omega arith) p5,
-            )
+            (s ∙ ap total lined_is ∙ total_points es ps)

@@ -4,100 +4,42 @@
 mod pairs;
 mod text;
 
-ghost use Rattle.std.specs.Prelude.{◌≡◌, ◌≤◌, length, take};
-ghost use Rattle.io.specs.Counts.{IsPrefixLen};
+ghost use Rattle.std.specs.Prelude.{◌≡◌, [], ◌∷◌, ◌≤◌, length, take, MatchResult};
+ghost use Rattle.checks.specs.Calls.{number};
 ghost use Rattle.lifting.specs.Calls.{pairing_file};
-ghost use Rattle.report.specs.Printed.{made, printed};
-ghost use Rattle.report.specs.Writing.{Made, ReducedThere};
+ghost use Rattle.report.specs.Printed.{line as line_of, made, printed};
+ghost use Rattle.report.specs.Writing.{ReducedThere};
 
-use cellfile::{decode, format};
-use checks::Lengths;
+use cellfile::decode;
+use cellfile::format::{CARRIED_BYTES, HEADER_BYTES, Kind, SHORT_START};
+use cellfile::records::{Entries, Records};
+use checks::Refusal;
+use text::Text;
 
-// The fields of an accepted list, from what reduce and pair wrote of it.
-fn print_made(
-    list: &[u8],
-    slip_length: usize,
-    short: &[u8],
-    pairing: &[u8],
-    text: &mut [u8],
-) -> usize
+// The lines of an accepted list, from what reduce and pair wrote of it.
+fn print_made(list: &[u8], slip_length: usize, short: &[u8], pairing: &[u8], text: &mut Text)
     requires { ReducedThere list.now slip_length short.now × (pairing.now ≡ pairing_file list.now)
-        × (36864 ≤ length text.old) }
-    ensures { Made (made list.now) text.new result }
+        × (text.old.bytes ≡ []) }
+    ensures { text.new.bytes ≡ made list.now }
 {
-    let m = decode::header_at(list).m;
-    let k = (pairing.len() - format::HEADER_BYTES) / format::PAIR_BYTES;
-    let steps = (slip_length - format::HEADER_BYTES) / format::STEP_BYTES;
-    let entries = (short.len() - format::SHORT_START) / format::SHORT_BYTES;
-    let carried = decode::number_at(&short[format::HEADER_BYTES..], format::CARRIED_BYTES);
-    let steps_end = text::line(text, 0, b"steps", steps as u64);
-    let carried_end = text::line(text, steps_end, b"carried", carried);
-    let short_end = text::line(text, carried_end, b"short", entries as u64);
-    let lines = pairs::pair_lines(list, m, pairing, k, text, short_end);
-    text::line(text, lines.end, b"total", lines.total)
+    let h = decode::header_at(list);
+    let entries = Entries::new(list, h.n, h.m);
+    let pairs = Records::new(pairing, decode::header_at(pairing).m);
+    let steps = (slip_length - HEADER_BYTES) / Kind::Slip.record_bytes();
+    let left = (short.len() - SHORT_START) / Kind::ShortList.record_bytes();
+    let carried = decode::number_at(&short[HEADER_BYTES..], CARRIED_BYTES);
+    text::line(text, "steps", &[steps as u64]);
+    text::line(text, "carried", &[carried]);
+    text::line(text, "short", &[left as u64]);
+    let total = pairs::pair_lines(&entries, &pairs, text);
+    text::line(text, "total", &[total]);
 }
 
-// Pairs a list that reduce has taken, and prints refusal 11 or the fields. Pair answers two lengths, never one.
-fn print_paired(
-    list: &[u8],
-    work_a: &mut [u64],
-    work_b: &mut [u64],
-    slip_length: usize,
-    short: &[u8],
-    pairing: &mut [u8],
-    origins: &mut [u8],
-    text: &mut [u8],
-) -> usize
-    requires { ReducedThere list.now slip_length short.now × (8192 ≤ length work_a.old)
-        × (8192 ≤ length work_b.old) × (1540 ≤ length pairing.old) × (2564 ≤ length origins.old)
-        × (36864 ≤ length text.old) }
-    ensures { Made (printed list.now) text.new result }
-{
-    match lifting::pair(list, work_a, work_b, pairing, origins) {
-        Lengths::Refused(k) => text::line(text, 0, b"refused", k as u64),
-        Lengths::Two { first, .. } => print_made(list, slip_length, short, &pairing[..first], text),
-        Lengths::One(_) => 0,
-    }
-}
-
-// Reduces and pairs a list in buffers that are long enough. Reduce answers two lengths, never one.
-fn print_in(
-    list: &[u8],
-    work_a: &mut [u64],
-    work_b: &mut [u64],
-    slip: &mut [u8],
-    short: &mut [u8],
-    pairing: &mut [u8],
-    origins: &mut [u8],
-    text: &mut [u8],
-) -> usize
-    requires { (8192 ≤ length work_a.old) × (8192 ≤ length work_b.old) × (2052 ≤ length slip.old)
-        × (32780 ≤ length short.old) × (1540 ≤ length pairing.old) × (2564 ≤ length origins.old)
-        × (36864 ≤ length text.old) }
-    ensures { Made (printed list.now) text.new result }
-{
-    match reduction::reduce(list, work_a, work_b, slip, short) {
-        Lengths::Refused(k) => text::line(text, 0, b"refused", k as u64),
-        Lengths::Two { first, second } => {
-            print_paired(
-                list,
-                work_a,
-                work_b,
-                first,
-                &short[..second],
-                pairing,
-                origins,
-                text,
-            )
-        }
-        Lengths::One(_) => 0,
-    }
-}
-
-// Puts what the program prints of the list at the start of the text: its length.
-pub fn print(list: &[u8], text: &mut [u8; 36864]) -> usize
-    ensures fits { IsPrefixLen result text.new }
-    ensures text { take result text.new ≡ printed list.now }
+// Reduces and pairs the list in buffers that are long enough, and makes its text, or tells the refusal.
+fn print_paired(list: &[u8], text: &mut Text) -> Result<(), Refusal>
+    requires { text.old.bytes ≡ [] }
+    ensures { MatchResult result (λ _. text.new.bytes ≡ printed list.now)
+        (λ refusal. (text.new.bytes ≡ []) × (line_of "refused" (number refusal ∷ []) ≡ printed list.now)) }
 {
     let mut work_a = [0u64; 8192];
     let mut work_b = [0u64; 8192];
@@ -105,14 +47,34 @@ pub fn print(list: &[u8], text: &mut [u8; 36864]) -> usize
     let mut short = [0u8; 32780];
     let mut pairing = [0u8; 1540];
     let mut origins = [0u8; 2564];
-    print_in(
+    let (slip_length, short_length) = reduction::reduce(
         list,
         &mut work_a,
         &mut work_b,
         &mut slip,
         &mut short,
-        &mut pairing,
-        &mut origins,
+    )?;
+    let (length, _) = lifting::pair(list, &mut work_a, &mut work_b, &mut pairing, &mut origins)?;
+    print_made(
+        list,
+        slip_length,
+        &short[..short_length],
+        &pairing[..length],
         text,
-    )
+    );
+    Ok(())
+}
+
+// Puts what the program prints of the list at the start of the text: its length.
+pub fn print(list: &[u8], text: &mut [u8; 36864]) -> usize
+    ensures fits { result ≤ length text.new }
+    ensures text { take result text.new ≡ printed list.now }
+{
+    let mut lines = Text::new();
+    if let Err(refusal) = print_paired(list, &mut lines) {
+        text::line(&mut lines, "refused", &[u64::from(u32::from(refusal))]);
+    }
+    let n = lines.len();
+    text[..n].copy_from_slice(lines.as_str().as_bytes());
+    n
 }

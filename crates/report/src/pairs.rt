@@ -1,47 +1,37 @@
 // The lines of a pairing's pairs with their points in the list: see specs/Writing.
-ghost use Rattle.std.specs.Prelude.{◌+◌, ◌*◌, ◌≤◌, length};
+ghost use Rattle.std.specs.Prelude.{◌≡◌, ◌++◌, ◌+◌, ◌*◌, ◌<◌, ◌≤◌, length};
+ghost use Rattle.arrayvec.specs.ArrayString.{array_string_len};
+ghost use Rattle.matching.specs.Listed.{total};
 ghost use Rattle.cellfile.specs.Files.{entries_all, pairs_of};
-ghost use Rattle.report.specs.Printed.{with_points};
-ghost use Rattle.report.specs.Writing.{LinesThere, LinesOf};
+ghost use Rattle.report.specs.Printed.{pair_lines as lines, with_points};
+ghost use Rattle.report.specs.Writing.{LinesThere};
 
-use crate::text;
-use cellfile::decode;
+use crate::text::{self, Text};
+use cellfile::decode::PairEntry;
+use cellfile::records::{Entries, Records};
 use checks;
+use checks::Match;
 
-// Where the lines end, and the sum of the points.
-#[derive(Clone, Copy)]
-pub struct Lines {
-    pub end: usize,
-    pub total: u64,
-}
-
-// The lines of the pairs, with their points in the list. Both files ascend, so each is passed once.
-pub fn pair_lines(
-    list: &[u8],
-    m: usize,
-    pairing: &[u8],
-    k: usize,
-    text: &mut [u8],
-    at: usize,
-) -> Lines
-    requires { LinesThere list.now m pairing.now k × (at + 68 * k ≤ length text.old) }
-    ensures { LinesOf (with_points (entries_all list.now) (pairs_of pairing.now))
-        text.old at text.new result }
+// Puts the lines of the pairs behind the text, with their points in the list: the sum of the points. Both files ascend,
+// so each is passed once.
+pub fn pair_lines(entries: &Entries, pairs: &Records<'_, PairEntry>, text: &mut Text) -> u64
+    requires { LinesThere entries.now.file.now pairs.now.file.now
+        × (array_string_len text.old + 68 * pairs.now.count < 36864) }
+    ensures lines { text.new.bytes ≡ text.old.bytes
+        ++ lines (with_points (entries_all entries.now.file.now) (pairs_of pairs.now.file.now)) }
+    ensures few { array_string_len text.new ≤ array_string_len text.old + 68 * pairs.now.count }
+    ensures total { result ≡ total (with_points (entries_all entries.now.file.now) (pairs_of pairs.now.file.now)) }
 {
-    let mut end = at;
-    let mut total: u64 = 0;
+    let mut total = 0;
     let mut i = 0;
-    let mut j = 0;
-    while j < k {
-        let p = decode::pairing_pair(pairing, j);
-        let a = p.a;
-        let b = p.b;
-        let found = checks::seek(list, m, i, a, b);
-        let points = found.points;
-        end = text::pair_line(text, end, a as u64, b as u64, points);
+    for j in 0..pairs.count {
+        let p = pairs.get(j);
+        let Some(Match { points, next }) = checks::seek(entries, i, p.a, p.b) else {
+            unreachable!()
+        };
+        text::line(text, "pair", &[p.a as u64, p.b as u64, points]);
         total += points;
-        i = found.next;
-        j += 1;
+        i = next;
     }
-    Lines { end, total }
+    total
 }

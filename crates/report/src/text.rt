@@ -1,50 +1,25 @@
-// Parts of a text, each put at a place of a buffer: see specs/Writing. Each answers where its part ends.
-ghost use Rattle.std.specs.Prelude.{◌∷◌, [], ◌++◌, ◌+◌, ◌≤◌, length};
-ghost use Rattle.report.specs.Printed.{decimal, numbers, line as line_of};
-ghost use Rattle.report.specs.Writing.{Appended};
+// The printed text, made by one line behind the other.
+ghost use Rattle.std.specs.Prelude.{◌≡◌, ◌++◌, ◌+◌, ◌*◌, ◌<◌, ◌≤◌, length};
+ghost use Rattle.arrayvec.specs.ArrayString.{array_string_len};
+ghost use Rattle.report.specs.Printed.{numbers};
 
-// The bytes.
-fn put(text: &mut [u8], at: usize, bytes: &[u8]) -> usize
-    requires { at + length bytes.now ≤ length text.old }
-    ensures { Appended text.old at bytes.now text.new result }
+use arrayvec::ArrayString;
+
+// The longest text has fewer bytes.
+pub type Text = ArrayString<36864>;
+
+// Puts a line of the word and the numbers behind the text.
+pub fn line(text: &mut Text, word: &str, values: &[u64])
+    requires { array_string_len text.old + length word.now + 21 * length values.now < 36864 }
+    ensures bytes { text.new.bytes ≡ text.old.bytes ++ (word.now ++ numbers values.now) }
+    ensures few { array_string_len text.new
+        ≤ array_string_len text.old + length word.now + 21 * length values.now + 1 }
 {
-    let mut i = 0;
-    while i < bytes.len() {
-        text[at + i] = bytes[i];
-        i += 1;
+    let mut digits = itoa::Buffer::new();
+    text.push_str(word);
+    for &v in values {
+        text.push_str(" ");
+        text.push_str(digits.format(v));
     }
-    at + bytes.len()
-}
-
-// A space and the number.
-fn number(text: &mut [u8], at: usize, v: u64) -> usize
-    requires { at + 21 ≤ length text.old }
-    ensures { Appended text.old at (32 ∷ decimal v) text.new result }
-{
-    let mut digits = [0u8; 20];
-    let k = io::decimal(v, &mut digits);
-    let start = put(text, at, b" ");
-    put(text, start, &digits[..k])
-}
-
-// A line of the word and one number.
-pub fn line(text: &mut [u8], at: usize, word: &[u8], v: u64) -> usize
-    requires { at + length word.now + 22 ≤ length text.old }
-    ensures { Appended text.old at (word.now ++ numbers (v ∷ [])) text.new result }
-{
-    let word_end = put(text, at, word);
-    let end = number(text, word_end, v);
-    put(text, end, b"\n")
-}
-
-// The line of a pair.
-pub fn pair_line(text: &mut [u8], at: usize, a: u64, b: u64, points: u64) -> usize
-    requires { at + 68 ≤ length text.old }
-    ensures { Appended text.old at (line_of "pair" (a ∷ b ∷ points ∷ [])) text.new result }
-{
-    let word_end = put(text, at, b"pair");
-    let a_end = number(text, word_end, a);
-    let b_end = number(text, a_end, b);
-    let end = number(text, b_end, points);
-    put(text, end, b"\n")
+    text.push_str("\n");
 }

@@ -1,23 +1,26 @@
 -- The marks of a path are its best (`marked_path`), by the recurrence of `Path` in crate matching; before it what marks
 -- and the pairs they mark become with one more pair, after it the two loops that write the marks.
-use Prim.Native.Nat.{ℕ, suc, ◌+◌, ◌-◌, ◌<◌, ◌≤◌}
+use Prim.Native.Nat.{ℕ, suc, ◌+◌, ◌<◌}
 use mathlib.Core.Path.{◌≡◌, refl, sym, ap, ap₂, ◌∙◌}
 use mathlib.Core.Bool.{Bool, true, false, cond}
 use mathlib.Core.List.{List, [], ◌∷◌, ◌++◌, map, append_assoc, append-nil}
 use native.Mathlib.Omega.{arith}
 use native.Mathlib.Numerals.{add-one}
-use lib.Dec.{eqb}
-use borrow.Author.Tests.{lt-ltb, le-ltb}
+use lib.Dec.{eqb, leb}
+use mir.Val.{bool_byte}
 use lib.ListN.{length, take, drop, get_or, set, length-map}
-use lib.Seq.{drop-length, drop-cons, drop_at, drop-set-lt, take_all, take-suc-set, length-take-le, set_split}
+use lib.Seq.{drop-length, drop-cons, drop-set-lt, take_all, take-suc-set}
 use Rattle.matching.specs.Pairs.{Points, ι}
 use Rattle.matching.specs.Best.{H, pays, best, tie, walk}
 use Rattle.matching.proofs.Members.{mem_on, mem_head}
 use Rattle.matching.proofs.Best.{h_nil, best_nil, best_cons}
 use Rattle.matching.proofs.Path.{path_step}
-use Rattle.rows.specs.Row.{row_points, two, paying, standing, path_marks, marked}
-use Rattle.rows.proofs.Points.{along, ApartPath, apart_next, fresh, second_barred, two_none, two_path, two_from}
-use Rattle.rows.proofs.Points.{map_from}
+use Rattle.rows.specs.Row.{row_points, two, paying, standing, path_marks, marked, WaysBefore}
+use Rattle.rows.specs.declared.Ways.{Ways}
+use Rattle.rows.proofs.Points.{along, ApartPath, apart_next, fresh, second_barred, two_none, two_path}
+use Rattle.rows.proofs.Points.{WaysOf, ways_none, ways_more}
+use Rattle.std.proofs.lemmas.Bool.Decides.{nat_tests}
+use Rattle.std.proofs.lemmas.List.{drop-set}
 
 paying_cons : (p : ℕ) (ps : List ℕ) → paying (p ∷ ps) ≡ ι (pays tie (two ps).0 (p + (two ps).1)) ∷ paying ps
 unfolding paying
@@ -125,37 +128,38 @@ marked_path w u (c ∷ d ∷ cs) v a =
 
 -- ---- the loop over the words, from the last on
 
-pub paying_none : (ws ms : List ℕ) → length ms ≡ length ws
-    → drop (length ws) ms ≡ paying (map row_points (drop (length ws) ws))
-paying_none ws ms e =
-    sym (ap (λ k. drop k ms) e)
-    ∙ drop-length ms
-    ∙ sym (ap (λ xs. paying (map row_points xs)) (drop-length ws) ∙ paying_nil)
-
--- the tie: a pair that brings less is left out, one that brings as much is taken
-pub pays_less : (k l : ℕ) → l < k → 0 ≡ ι (pays tie k l)
+-- the tie: a pair that brings as much is taken
+pub pays_is : (k l : ℕ) → leb k l ≡ pays tie k l
 unfolding tie
-pays_less k l h = rw (lt-ltb l k h)
+pays_is k l = grind (arith, nat_tests)
 
-pub pays_enough : (k l : ℕ) → k ≤ l → 1 ≡ ι (pays tie k l)
-unfolding tie
-pays_enough k l h = rw (le-ltb l k h)
+pub one_if : (t : Bool) → bool_byte t ≡ ι t
+one_if true = refl
+one_if false = refl
 
-pub paying_more : (ws ms : List ℕ) (i m : ℕ) {p best next : ℕ} → 0 < i → i ≤ length ws → length ms ≡ length ws
-    → p ≡ row_points (get_or ws (i - 1) 0) → best ≡ (two_from ws i).0 → next ≡ (two_from ws i).1
-    → m ≡ ι (pays tie best (p + next)) → drop i ms ≡ paying (map row_points (drop i ws))
-    → drop (i - 1) (set ms (i - 1) m) ≡ paying (map row_points (drop (i - 1) ws))
-paying_more ws ms i m {p} {best} {next} l h n e a b q r =
-    let s : suc (i - 1) ≡ i = omega arith in
-    let x = row_points (get_or ws (i - 1) 0) in
+pub marks_none : (ws ms : List ℕ) → length ms ≡ length ws
+    → WaysOf (drop (length ws) ws) (record { without = 0; with = 0 })
+    × (drop (length ws) ms ≡ paying (map row_points (drop (length ws) ws)))
+marks_none ws ms e =
+    rw (drop-length ws) (ways_none, sym (ap (λ k. drop k ms) e) ∙ drop-length ms ∙ sym paying_nil)
+
+pub marks_more : (ws ms : List ℕ) (i j m : ℕ) (s r : Ways) → j + 1 ≡ i → j < length ws → length ms ≡ length ws
+    → WaysOf (drop i ws) s → WaysBefore s (get_or ws j 0) r → m ≡ bool_byte (pays tie r.without r.with)
+    → drop i ms ≡ paying (map row_points (drop i ws))
+    → WaysOf (drop j ws) r × (drop j (set ms j m) ≡ paying (map row_points (drop j ws)))
+marks_more ws ms i j m s r e h n o b q p =
+    let x = get_or ws j 0 in
     let rest = map row_points (drop i ws) in
-    let head : m ≡ ι (pays tie (two rest).0 (x + (two rest).1)) =
-    q ∙ ap ι (ap₂ (pays tie) a (ap₂ ◌+◌ e b)) in
-    ap (drop (i - 1)) (set_split ms (i - 1) m (omega arith))
-    ∙ drop_at (take (i - 1) ms) (m ∷ drop (suc (i - 1)) ms) (i - 1) (length-take-le (i - 1) ms (omega arith))
-    ∙ ap (λ k. m ∷ drop k ms) s
-    ∙ ap₂ ◌∷◌ head r
-    ∙ sym (ap paying (map_from ws i l h) ∙ paying_cons x rest)
+    let d : drop j ws ≡ x ∷ drop i ws =
+    drop-cons ws j 0 h ∙ ap (λ k. x ∷ drop k ws) (sym (add-one j) ∙ e) in
+    let head : m ≡ ι (pays tie (two rest).0 (row_points x + (two rest).1)) =
+    q ∙ one_if (pays tie r.without r.with)
+    ∙ ap₂ (λ k l. ι (pays tie k l)) (b.without ∙ o.best) (b.with ∙ ap (λ k. row_points x + k) o.next) in
+    rw d (
+      ways_more x (drop i ws) s r o b,
+      drop-set ms j m (omega arith) ∙ ap (λ k. m ∷ drop k ms) e ∙ ap₂ ◌∷◌ head p
+          ∙ sym (paying_cons (row_points x) rest),
+    )
 
 -- ---- the marks that stand, from the first on
 

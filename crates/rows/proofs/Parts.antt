@@ -23,7 +23,7 @@ use Rattle.matching.proofs.Best.{h_nil, h_cons, best_nil, best_cons}
 use Rattle.matching.proofs.Path.{Alike, Recurs, h_ext, best_ext, length_walk, walk_each, ring_step}
 use Rattle.buffers.specs.Map.{unit}
 use Rattle.rows.specs.Row.{row_points, words_of_row, RowOf, two, heavy, paying, standing, path_marks, part_marks}
-use Rattle.rows.specs.Row.{unmarked, marked, less, RowBest}
+use Rattle.rows.specs.Row.{unmarked, marked, less, RowBest, out, taking}
 use Rattle.rows.proofs.Points.{ApartPath, words_along, two_none, two_path}
 use Rattle.rows.proofs.Best.{marked_path, length_marks, no_marks}
 
@@ -364,13 +364,6 @@ part_marks_is ws ms z a e h k q m =
           (length ws),
     )
 
--- the points without the first pair of a ring, and with it
-abbrev pub out : List ℕ → ℕ
-out ws = heavy (take (length ws - 1) (drop 1 ws))
-
-abbrev pub taking : List ℕ → ℕ
-taking ws = row_points (get_or ws 0 0) + heavy (take (length ws - 1 - 2) (drop 2 ws))
-
 module _ (ws : List ℕ) (w : Points) (u : ℕ) where
   -- the parts of the words, by those of the row
   long : (inner : List ℕ) (v : ℕ) → ws ≡ words_of_row w u inner v → length ws ≡ suc (length inner)
@@ -497,21 +490,17 @@ module _ (ws : List ℕ) (w : Points) (u : ℕ) where
       (part_is 2 (length ws - 1 - 2) 2 (length cs) row r.words refl (omega arith))
 
   pub ring_out : (inner : List ℕ) → RowOf w u inner u ws → (e : ℕ) → e ≡ length ws
-      → 0 ≡ ι (pays tie (out ws) (taking ws)) → RowBest w [] u inner u (part_marks 1 e ws)
+      → pays tie (out ws) (taking ws) ≡ false → RowBest w [] u inner u (part_marks 1 e ws)
   ring_out [] r e q p = absurd (omega (arith, r.more))
   ring_out (c ∷ []) r e q p = absurd (omega (arith, r.more))
   ring_out (c ∷ d ∷ cs) r e q p =
       let i : e - 1 ≡ length ws - 1 = omega (arith, q) in
       let j : length ws - e ≡ 0 = omega (arith, q) in
       ap₂ (λ i j. marked (0 ∷ (path_marks (take i (drop 1 ws)) ++ unmarked j)) (walk u (c ∷ d ∷ cs) u)) i j
-      ∙ taken c d cs r false (is_out (pays tie (out ws) (taking ws)) p)
-    where
-      is_out : (t : Bool) → 0 ≡ ι t → false ≡ t
-      is_out false h = refl
-      is_out true h = absurd (omega (arith, h))
+      ∙ taken c d cs r false (sym p)
 
   pub ring_in : (inner : List ℕ) → RowOf w u inner u ws → (e : ℕ) → e ≡ length ws - 1
-      → 0 ≢ ι (pays tie (out ws) (taking ws)) → RowBest w [] u inner u (set (part_marks 2 e ws) 0 1)
+      → pays tie (out ws) (taking ws) ≡ true → RowBest w [] u inner u (set (part_marks 2 e ws) 0 1)
   ring_in [] r e q p = absurd (omega (arith, r.more))
   ring_in (c ∷ []) r e q p = absurd (omega (arith, r.more))
   ring_in (c ∷ d ∷ cs) r e q p =
@@ -519,8 +508,4 @@ module _ (ws : List ℕ) (w : Points) (u : ℕ) where
       let i : e - 2 ≡ length ws - 1 - 2 = omega (arith, q) in
       let j : length ws - e ≡ 1 = omega (arith, q) in
       ap₂ (λ i j. marked (1 ∷ 0 ∷ (path_marks (take i (drop 2 ws)) ++ unmarked j)) (walk u (c ∷ d ∷ cs) u)) i j
-      ∙ taken c d cs r true (is_in (pays tie (out ws) (taking ws)) p)
-    where
-      is_in : (t : Bool) → 0 ≢ ι t → true ≡ t
-      is_in false h = absurd (h refl)
-      is_in true h = refl
+      ∙ taken c d cs r true (sym p)

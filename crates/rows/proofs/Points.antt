@@ -1,13 +1,13 @@
 -- The points of a path, by the points of its pairs, are H. In order: the words of a row and its pairs' points
 -- (`along`); a path without and with its first pair (`two_path`); the loop over the words.
-use Prim.Native.Nat.{ℕ, suc, ◌+◌, ◌-◌, ◌<◌, ◌≤◌, max}
+use Prim.Native.Nat.{ℕ, ◌+◌, ◌*◌, ◌-◌, ◌<◌, ◌≤◌, max}
 use mathlib.Core.Path.{◌≡◌, refl, sym, ap, ap₂, ◌∙◌}
 use mathlib.Core.Logic.{◌⊎◌, inl, inr, ◌≢◌}
 use mathlib.Core.Bool.{true, false}
-use mathlib.Core.List.{List, [], ◌∷◌, map}
+use mathlib.Core.List.{List, [], ◌∷◌, ◌++◌, map, append_assoc, append-nil}
 use native.Mathlib.Omega.{arith}
-use lib.ListN.{length, drop, get_or}
-use lib.Seq.{drop-length, drop-cons}
+use lib.ListN.{length}
+use Rattle.std.specs.List.{push}
 use Rattle.matching.specs.Lists.{mem, distinct}
 use Rattle.matching.specs.Pairs.{Points, Each}
 use Rattle.matching.specs.Best.{H, walk}
@@ -15,7 +15,8 @@ use Rattle.matching.proofs.Members.{mem_on, mem_head, mem_not, mem_apart, distin
 use Rattle.matching.proofs.Best.{h_nil, h_cons}
 use Rattle.matching.proofs.Path.{path_step}
 use Rattle.buffers.specs.Map.{unit}
-use Rattle.rows.specs.Row.{row_points, words_of_row, two}
+use Rattle.rows.specs.Row.{row_points, words_of_row, two, WaysBefore}
+use Rattle.rows.specs.declared.Ways.{Ways}
 
 -- the points of the pairs of a walk
 abbrev pub along : Points → ℕ → List ℕ → ℕ → List ℕ
@@ -98,26 +99,40 @@ two_path w u (c ∷ d ∷ cs) v a =
 
 -- ---- the loop over the words, from the last on
 
-abbrev pub two_from : List ℕ → ℕ → ℕ × ℕ
-two_from ws i = two (map row_points (drop i ws))
+-- The points of a path of these words, without its first pair and with it: no pairs, and one more pair.
+pub record WaysOf (ws : List ℕ) (s : Ways) : Type 0 where
+  pub best : max s.without s.with ≡ (two (map row_points ws)).0
+  pub next : s.without ≡ (two (map row_points ws)).1
+  pub most_without : s.without ≤ (unit - 1) * length ws
+  pub most_with : s.with ≤ (unit - 1) * length ws
 
-pub from_none : (ws : List ℕ) → (0 ≡ (two_from ws (length ws)).0) × (0 ≡ (two_from ws (length ws)).1)
-from_none ws = rw (drop-length ws) (sym two_none.0, sym two_none.1)
+pub ways_none : WaysOf [] (record { without = 0; with = 0 })
+ways_none = record { best = sym two_none.0; next = sym two_none.1; most_without = omega arith; most_with = omega arith }
 
-pub map_from : (ws : List ℕ) (i : ℕ) → 0 < i → i ≤ length ws
-    → map row_points (drop (i - 1) ws) ≡ row_points (get_or ws (i - 1) 0) ∷ map row_points (drop i ws)
-map_from ws i l m =
-    let s : suc (i - 1) ≡ i = omega arith in
-    ap (map row_points) (drop-cons ws (i - 1) 0 (omega arith))
-    ∙ ap (λ k. row_points (get_or ws (i - 1) 0) ∷ map row_points (drop k ws)) s
+pub ways_more : (x : ℕ) (ws : List ℕ) (s r : Ways) → WaysOf ws s → WaysBefore s x r → WaysOf (x ∷ ws) r
+ways_more x ws s r o b =
+    let rest = map row_points ws in
+    let p = row_points x in
+    record {
+      best = ap₂ max (b.without ∙ o.best) (b.with ∙ ap (λ k. p + k) o.next) ∙ sym (two_first p rest);
+      next = b.without ∙ o.best ∙ sym (two_second p rest);
+      most_without = omega (arith, b.without, o.most_without, o.most_with);
+      most_with = omega (arith, b.with, o.most_without);
+    }
 
-pub from_more : (ws : List ℕ) (i : ℕ) {p best next : ℕ} → 0 < i → i ≤ length ws → p ≡ row_points (get_or ws (i - 1) 0)
-    → best ≡ (two_from ws i).0 → next ≡ (two_from ws i).1
-    → (max best (p + next) ≡ (two_from ws (i - 1)).0) × (best ≡ (two_from ws (i - 1)).1)
-from_more ws i l m e a b =
-    let x = row_points (get_or ws (i - 1) 0) in
-    let rest = map row_points (drop i ws) in
-    let all = map_from ws i l m in (
-      rw (e, a, b) (sym (ap (λ ps. (two ps).0) all ∙ two_first x rest)),
-      a ∙ sym (ap (λ ps. (two ps).1) all ∙ two_second x rest),
-    )
+-- What the loop keeps: the words are those to come, and then those that the points are of.
+pub record Walked (words rest : List ℕ) (s : Ways) : Type 0 where
+  pub done : List ℕ
+  pub split : words ≡ rest ++ done
+  pub ways : WaysOf done s
+
+pub walked_none : (words : List ℕ) → Walked words words (record { without = 0; with = 0 })
+walked_none words = record { done = []; split = sym (append-nil words); ways = ways_none }
+
+pub walked_more : (words rest all : List ℕ) (x : ℕ) (s r : Ways) → Walked words all s → all ≡ push rest x
+    → WaysBefore s x r → Walked words rest r
+walked_more words rest all x s r w e b = record {
+  done = x ∷ w.done;
+  split = w.split ∙ ap (λ xs. xs ++ w.done) e ∙ append_assoc rest (x ∷ []) w.done;
+  ways = ways_more x w.done s r w.ways b;
+}

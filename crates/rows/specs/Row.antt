@@ -1,13 +1,14 @@
 -- The row of a ring or a chain as words in reading order, and the points of its heaviest pairings. Inner contracts cite
 -- this; what they promise is H of crate matching.
 use Rattle.std.specs.Prelude.{ℕ, ◌+◌, ◌*◌, ◌-◌, ◌%◌, ◌<◌, max, ◌≡◌, Bool, true, false, cond, List, [], ◌∷◌, ◌++◌, map}
-use Rattle.std.specs.Prelude.{eqb, length, take, drop, replicate}
+use Rattle.std.specs.Prelude.{eqb, length, slice_index_or as get_or, take, drop, replicate}
 use Rattle.matching.specs.Lists.{mem, distinct}
 use Rattle.matching.specs.Pairs.{Pair, Points, ι, Each}
 use Rattle.matching.specs.Best.{H, pays, best, tie, walk}
 use Rattle.buffers.specs.Map.{unit}
 use Rattle.rows.specs.declared.ChainPoints.{ChainPoints}
 use Rattle.rows.specs.declared.RingPoints.{RingPoints}
+use Rattle.rows.specs.declared.Ways.{Ways}
 
 -- A word: the cell that a pair of the row starts from, above the bits of the pair's points.
 abbrev pub row_points : ℕ → ℕ
@@ -35,6 +36,18 @@ two (p ∷ ps) = (max (two ps).0 (p + (two ps).1), (two ps).0)
 
 abbrev pub heavy : List ℕ → ℕ
 heavy ws = (two (map row_points ws)).0
+
+-- The points of a path without its first pair and with it, by those of the path behind that pair.
+pub record WaysBefore (behind : Ways) (x : ℕ) (r : Ways) : Type 0 where
+  pub without : r.without ≡ max behind.without behind.with
+  pub with : r.with ≡ row_points x + behind.without
+
+-- The points without the first pair of a ring, and with it.
+abbrev pub out : List ℕ → ℕ
+out ws = heavy (take (length ws - 1) (drop 1 ws))
+
+abbrev pub taking : List ℕ → ℕ
+taking ws = row_points (get_or ws 0 0) + heavy (take (length ws - 1 - 2) (drop 2 ws))
 
 -- Whether each pair of a path pays, as 1 or 0, by what the pairs after it bring without it and with it; and the marks
 -- that stand: no mark right behind one that stands, b being the one before. Law: proofs/Best, `marked_path`.

@@ -3,205 +3,250 @@
 
 pub mod lists;
 
-ghost use Rattle.std.specs.Prelude.{◌≡◌, List, ℕ, ◌+◌, ◌*◌, ◌≤◌, ◌<◌, length, set};
-ghost use Rattle.buffers.specs.Map.{at_names, trail_room};
+ghost use Rattle.std.specs.Prelude.{◌≡◌, List, ℕ, true, ◌+◌, ◌*◌, ◌≤◌, ◌<◌, length};
+ghost use Rattle.buffers.specs.Map.{trail_room};
 ghost use Rattle.matching.specs.Pairs.{Points};
-ghost use Rattle.matching.specs.Graph.{Graph};
-ghost use Rattle.slots.specs.Slots.{Holds, graph_of};
-ghost use Rattle.finding.specs.Finding.{told, Finds, Quiet, RingQuiet};
-ghost use Rattle.running.specs.Running.{Asked, Runs, names_at, names_from, next_step, Names, Spare};
-ghost use Rattle.running.specs.Running.{Coursing, FoundThere};
+ghost use Rattle.matching.specs.Steps.{Rule as rules};
+ghost use Rattle.cellfile.specs.Files.{number_of};
+ghost use Rattle.cellfile.specs.Kinds.{as_rule};
+ghost use Rattle.slots.specs.Working.{graph_in, SameBuffers};
+ghost use Rattle.finding.specs.Finding.{MayFind};
+ghost use Rattle.running.specs.Running.{names_of, steps_in, name_in, next_step_of, NamedAt, Spare, Asked, Runs};
+ghost use Rattle.running.specs.Running.{Coursing, FoundThere, Emptied};
 
-use bounds;
+use bounds::Bounds;
 use buffers;
 use buffers::map::{CELL_FIELD, NAMES, TRAIL_WORDS};
-use cellfile::decode;
-use cellfile::format::{CHAIN, LEAF, RING};
+use cellfile::decode::SlipStep;
+use cellfile::format::Rule;
+use cellfile::records::Records;
+use checks::Refusal;
 use finding;
 use finding::{Found, Step};
 use leaves;
+use leaves::Room;
+use slots::graph::WorkingGraph;
 use taking;
 
-// Refusal 8, or what stands in the buffers after the steps: the slots in use, the words on the trail, the points
-// carried, and the number of steps, which stand as words from NAMES on in the second buffer.
+// What the steps left beside the graph: the words on the trail, the points carried, and the number of steps, which
+// stand as words from NAMES on in the second buffer.
 #[derive(Clone, Copy)]
-pub enum Ran {
-    Refused(u32),
-    Done {
-        slots: usize,
-        trail: usize,
-        carried: u64,
-        steps: usize,
-    },
+pub struct Ran {
+    pub trail: usize,
+    pub carried: u64,
+    pub steps: usize,
 }
 
 // How a slip names a step.
 #[derive(Clone, Copy)]
 pub struct Name {
-    pub rule: u64,
+    pub rule: Rule,
     pub cell: usize,
 }
 
-// The name of a step; of none it is 0, 0.
-fn name_of(step: Step) -> Name
-    ensures { Names (told step) result }
-{
-    match step {
-        Step::Leaf { v, u: _ } => Name {
-            rule: LEAF,
-            cell: v,
-        },
-        Step::Ring { u: _, z } => Name {
-            rule: RING,
-            cell: z,
-        },
-        Step::Chain { u: _, v: _, z } => Name {
-            rule: CHAIN,
-            cell: z,
-        },
-        Step::None => Name { rule: 0, cell: 0 },
+impl From<Step> for Name {
+    ghost from_gives = { λ step name. name ≡ name_in step };
+
+    fn from(step: Step) -> Name {
+        match step {
+            Step::Leaf { v, u: _ } => Name {
+                rule: Rule::Leaf,
+                cell: v,
+            },
+            Step::Ring { u: _, z } => Name {
+                rule: Rule::Ring,
+                cell: z,
+            },
+            Step::Chain { u: _, v: _, z } => Name {
+                rule: Rule::Chain,
+                cell: z,
+            },
+        }
     }
 }
 
-// Where the loop stands: the slots in use, the words on the trail, the points carried and the steps taken. No cell
-// below `low` is a leaf, none below `rings` is named by a ring step.
+impl Name {
+    // The word of a slip.
+    fn word(self) -> u64
+        requires { self.cell < 1024 }
+        ensures { result ≡ number_of (as_rule self.rule) * 1024 + self.cell }
+    {
+        u64::from(self.rule) * CELL_FIELD + self.cell as u64
+    }
+}
+
+// Where the loop stands: what the steps so far left, and the bounds of the search.
 #[derive(Clone, Copy)]
 struct Place {
-    slots: usize,
-    trail: usize,
-    carried: u64,
-    steps: usize,
-    low: usize,
-    rings: usize,
+    taken: Ran,
+    bounds: Bounds,
 }
 
-// The step that comes next: the one that the slip names, or behind its m steps the one that reduce takes.
-fn next(slip: &[u8], m: usize, n: usize, w1: &[u64], w2: &[u64], at: Place) -> Found
-    requires { (w : Points) × (more : ℕ) × Coursing n w m more slip.now at w1.now w2.now }
-    ensures { Finds at.slots w1.now (next_step n (graph_of at.slots w1.now)
-        (names_from m slip.now at.steps)) result }
+// How many steps a slip names; none where there is no slip.
+fn count_of(slip: Option<&Records<'_, SlipStep>>) -> usize
+    ensures { result ≡ length (steps_in slip.entry (λ r. names_of r.now.file.now)) }
 {
-    let e = at.slots;
-    let k = at.steps;
-    if k < m {
-        let t = decode::slip_step(slip, k);
-        let rule = t.rule;
-        let cell = t.cell;
-        return finding::scan(w1, w2, e, rule, cell, cell + 1);
+    match slip {
+        Some(steps) => steps.count,
+        None => 0,
     }
-    finding::first_step(w1, w2, e, n, at.low, at.rings)
+}
+
+// The step that a slip names after k others.
+fn named(slip: Option<&Records<'_, SlipStep>>, k: usize) -> Option<SlipStep>
+    ensures { NamedAt (steps_in slip.entry (λ r. names_of r.now.file.now)) k result }
+{
+    let steps = slip?;
+    if k < steps.count {
+        Some(steps.get(k))
+    } else {
+        None
+    }
+}
+
+// The step that comes next: the one that the slip names, or behind its steps the one that reduce takes.
+fn next(
+    graph: &WorkingGraph,
+    n: usize,
+    slip: Option<&Records<'_, SlipStep>>,
+    at: Place,
+) -> Option<Found>
+    requires { (w : Points) × (more : ℕ)
+        × Coursing n w (steps_in slip (λ r. names_of r.now.file.now)) more at graph.now }
+    ensures { MayFind graph.now.slots graph.now.w1.now
+        (next_step_of n (graph_in graph.now) (steps_in slip.entry (λ r. names_of r.now.file.now)) at.taken.steps)
+        result }
+{
+    match named(slip, at.taken.steps) {
+        Some(t) => finding::scan(graph, Rule::named(t.rule), t.cell, t.cell + 1),
+        None => finding::first_step(graph, n, at.bounds.low, at.bounds.rings),
+    }
 }
 
 const MOST_STEPS: usize = 1024;
 
-// For how many more steps as reduce takes them there is room, after k steps and with so many words on the trail.
-fn spare(m: usize, more: usize, k: usize, trail: usize) -> usize
-    requires { (k ≤ 1024) × (trail ≤ trail_room) × (k ≤ m + more) × (m < 8192) × (more ≤ 1024) }
-    ensures { Spare m more k trail result }
+// The room for more steps as reduce takes them; none where the slip has steps left.
+fn spare(m: usize, more: usize, taken: Ran) -> Room
+    requires { (taken.steps ≤ 1024) × (taken.trail ≤ trail_room) × (taken.steps ≤ m + more) × (m < 8192)
+        × (more ≤ 1024) }
+    ensures { Spare m more taken result }
 {
-    if k < m {
-        return 0;
+    let Ran {
+        trail,
+        carried: _,
+        steps,
+    } = taken;
+    if steps < m {
+        return Room {
+            trail,
+            names: steps,
+            most: 0,
+        };
     }
-    let room = bounds::lower(MOST_STEPS - k, TRAIL_WORDS - trail);
-    bounds::lower(room, m + more - k)
-}
-
-// Writes the name as the word of step k; the steps then.
-fn write_name(w2: &mut [u64], k: usize, name: Name) -> usize
-    requires { (8192 ≤ length w2.old) × (k < 1024) × (name.rule ≤ 3) × (name.cell < 1024) }
-    ensures { (result ≡ k + 1)
-        × (w2.new ≡ set w2.old (at_names + k) (name.rule * 1024 + name.cell)) }
-{
-    w2[NAMES + k] = name.rule * CELL_FIELD + name.cell as u64;
-    k + 1
+    let most = (MOST_STEPS - steps)
+        .min(TRAIL_WORDS - trail)
+        .min(m + more - steps);
+    Room {
+        trail,
+        names: steps,
+        most,
+    }
 }
 
 // Takes the step that was found and writes its name.
-fn take_found(w1: &mut [u64], w2: &mut [u64], m: usize, at: Place, x: Found) -> Place
-    requires { FoundThere m at x w1.old w2.old }
-    ensures { (result.steps ≡ at.steps + 1) × ((h : FoundThere m at x w1.old w2.old)
-        → Coursing h.n h.w m h.more h.slip result w1.new w2.new) }
+fn take_found(graph: &mut WorkingGraph, m: usize, at: Place, x: Found) -> Place
+    requires { FoundThere m at x graph.old }
+    ensures steps { result.taken.steps ≡ at.taken.steps + 1 }
+    ensures buffers { SameBuffers graph.old graph.new }
+    ensures on { (h : FoundThere m at x graph.old) → Coursing h.n h.w h.rs h.more result graph.new }
 {
-    let step = x.step;
-    let low = bounds::quiet_after(w1, w2, at.slots, step, at.low);
-    let again = x.step;
-    let rings = bounds::rings_after(w1, w2, at.slots, again, at.rings);
-    let named = x.step;
-    let t = taking::take_step(w1, w2, at.slots, at.trail, x);
-    let steps = write_name(w2, at.steps, name_of(named));
-    let carried = at.carried + t.carried;
-    Place {
-        slots: t.slots,
-        trail: t.trail,
+    let Ran {
+        trail,
         carried,
         steps,
-        low,
-        rings: bounds::rings_left(m, steps, 0, rings),
+    } = at.taken;
+    let bounds = at.bounds.after(graph, x.step).rings_left(m <= steps);
+    let step = taking::take_step(graph, trail, x);
+    graph.set_word(NAMES + steps, Name::from(x.step).word());
+    Place {
+        taken: Ran {
+            trail: step.trail,
+            carried: carried + step.carried,
+            steps: steps + 1,
+        },
+        bounds,
     }
 }
 
 // Takes a run of leaf steps, where reduce takes the steps.
-fn leaf_steps(w1: &mut [u64], w2: &mut [u64], n: usize, m: usize, more: usize, at: Place) -> Place
-    requires { (w : Points) × (slip : List ℕ) × Coursing n w m more slip at w1.old w2.old }
-    ensures { (at.steps ≤ result.steps) × ((w : Points) (slip : List ℕ)
-        → Coursing n w m more slip at w1.old w2.old
-        → Coursing n w m more slip result w1.new w2.new) }
+fn leaf_steps(graph: &mut WorkingGraph, n: usize, m: usize, more: usize, at: Place) -> Place
+    requires { (w : Points) × (rs : List (rules × ℕ)) × (m ≡ length rs) × Coursing n w rs more at graph.old }
+    ensures steps { at.taken.steps ≤ result.taken.steps }
+    ensures buffers { SameBuffers graph.old graph.new }
+    ensures on { (w : Points) (rs : List (rules × ℕ)) → m ≡ length rs → Coursing n w rs more at graph.old
+        → Coursing n w rs more result graph.new }
 {
-    let most = spare(m, more, at.steps, at.trail);
-    let run = leaves::leaf_run(w1, w2, at.slots, n, at.low, at.trail, at.steps, most);
-    let trail = at.trail + run.steps;
-    let carried = at.carried + run.carried;
-    let steps = at.steps + run.steps;
-    Place {
-        slots: at.slots,
+    let Ran {
         trail,
         carried,
         steps,
+    } = at.taken;
+    let run = leaves::leaf_run(graph, n, at.bounds.low, spare(m, more, at.taken));
+    let bounds = Bounds {
         low: run.low,
-        rings: bounds::rings_left(m, at.steps, run.steps, at.rings),
+        rings: at.bounds.rings,
+    };
+    Place {
+        taken: Ran {
+            trail: trail + run.steps,
+            carried: carried + run.carried,
+            steps: steps + run.steps,
+        },
+        bounds: bounds.rings_left(run.steps == 0),
     }
 }
 
-// Takes the first m steps of the slip, then at most `more` steps as reduce takes them. Where a step of the slip is not
-// allowed, the buffers are zero afterwards.
-pub fn run(
-    slip: &[u8],
-    m: usize,
-    more: usize,
-    n: usize,
-    w1: &mut [u64],
-    w2: &mut [u64],
-    e: usize,
-) -> Ran
-    requires { (Holds e w1.old w2.old) × Asked n (graph_of e w1.old) m more slip.now }
-    ensures { Runs n (graph_of e w1.old) (names_at m slip.now) more
-        w1.old w2.old w1.new w2.new result }
+// The buffers are zero, which hold the empty graph.
+fn empty(graph: &mut WorkingGraph)
+    ensures { Emptied graph.old graph.new }
 {
+    let WorkingGraph { w1, w2, slots } = graph;
+    buffers::clear(w1);
+    buffers::clear(w2);
+    *slots = 0;
+}
+
+// Takes the steps of the slip, then at most `more` steps as reduce takes them. Where a step of the slip is not allowed,
+// the buffers are zero afterwards.
+pub fn run(
+    graph: &mut WorkingGraph,
+    n: usize,
+    slip: Option<&Records<'_, SlipStep>>,
+    more: usize,
+) -> Result<Ran, Refusal>
+    requires { Asked n (graph_in graph.old) (steps_in slip (λ r. names_of r.now.file.now)) more }
+    ensures { Runs n (graph_in graph.old) (steps_in slip.entry (λ r. names_of r.now.file.now)) more
+        graph.old graph.new result }
+{
+    let m = count_of(slip);
     let mut at = Place {
-        slots: e,
-        trail: 0,
-        carried: 0,
-        steps: 0,
-        low: 0,
-        rings: 0,
+        taken: Ran {
+            trail: 0,
+            carried: 0,
+            steps: 0,
+        },
+        bounds: Bounds { low: 0, rings: 0 },
     };
-    while at.steps < m + more {
-        let x = next(slip, m, n, w1, w2, at);
-        let step = x.step;
-        let (Step::Leaf { .. } | Step::Ring { .. } | Step::Chain { .. }) = step else {
-            if at.steps < m {
-                buffers::clear_both(w1, w2);
-                return Ran::Refused(8);
+    while at.taken.steps < m + more {
+        let Some(found) = next(graph, n, slip, at) else {
+            if at.taken.steps < m {
+                empty(graph);
+                return Err(Refusal::Disallowed);
             }
             break;
         };
-        let taken = take_found(w1, w2, m, at, x);
-        at = leaf_steps(w1, w2, n, m, more, taken);
+        let stepped = take_found(graph, m, at, found);
+        at = leaf_steps(graph, n, m, more, stepped);
     }
-    Ran::Done {
-        slots: at.slots,
-        trail: at.trail,
-        carried: at.carried,
-        steps: at.steps,
-    }
+    Ok(at.taken)
 }

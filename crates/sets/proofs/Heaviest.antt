@@ -1,9 +1,9 @@
 -- The heaviest pairing of a set. In order: solving with more fuel than there are places; the heaviest pairing of no
 -- place; the bound of its points (`points_light`) and of a word (`word_light`).
-use mathlib.Core.Path.{◌≡◌, refl, sym, ap, ap₂, fun_ext}
+use mathlib.Core.Path.{◌≡◌, refl, sym, ap, ap₂, ◌∙◌, fun_ext}
 use mathlib.Core.Bool.{Bool, true, false, cond, ◌&&◌}
 use mathlib.Core.List.{List, [], ◌∷◌}
-use Prim.Native.Nat.{ℕ, zero, suc, ◌+◌, ◌*◌, ◌/◌, ◌≤◌, ◌<◌}
+use Prim.Native.Nat.{ℕ, zero, suc, ◌+◌, ◌*◌, ◌/◌, ◌%◌, ◌≤◌, ◌<◌}
 use native.Mathlib.Omega.{arith}
 use lib.Dec.{ltb}
 use lib.Pow.{pow_pos}
@@ -34,10 +34,10 @@ solve_more (suc k) w (c ∷ cs) l =
 pub heaviest_none : (ws : List ℕ) (s : ℕ) → s ≡ 0 → heaviest ws s ≡ []
 heaviest_none ws s e = ap (solve 12 (between ws)) (places_empty 12 s e)
 
-pub best_none : (ws : List ℕ) (s : ℕ) → s ≡ 0 → Best ws s 1
-best_none ws s e = record {
-  marked = omega arith;
-  sums = sym (ap (sum (between ws)) (heaviest_none ws s e));
+pub best_none : (ws : List ℕ) (s : ℕ) {v : ℕ} → s ≡ 0 → 0 < v % 16 → v / 16 ≡ 0 → Best ws s v
+best_none ws s e m z = record {
+  marked = m;
+  sums = z ∙ sym (ap (sum (between ws)) (heaviest_none ws s e));
   leads = λ {c} q l. absurd (omega (arith, (without_first c s q l).0, pow_pos c));
 }
 

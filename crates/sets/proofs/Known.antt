@@ -1,6 +1,6 @@
 -- What is known of sets. In order: a buffer that keeps it (`Kept`) through calls and where a set becomes known; a part
--- of the table cleared, so that nothing is known of its sets (`part_cleared`); being ready then (`ready_forgotten`),
--- and after a call for a smaller set (`ready_kept`).
+-- of a buffer set to zero (`part_zero`), and of the table, so that nothing is known of its sets (`part_cleared`); being
+-- ready then (`ready_forgotten`), and after a call for a smaller set (`ready_kept`).
 use mathlib.Core.Path.{◌≡◌, refl, sym, ap, ◌∙◌}
 use mathlib.Core.Logic.{◌≢◌}
 use mathlib.Core.Bool.{Bool}
@@ -43,25 +43,33 @@ kept_more {ws} {w0} {w1} {k} s v l b h = record {
 
 -- ---- the table is cleared
 
+-- a part of a buffer is filled with zeros
+pub part_zero : (a e : ℕ) (w ys : List ℕ) → a ≤ e → e ≤ length w → ys ≡ zeros (length (mid_of a (e - a) w))
+    → (j : ℕ) → j < e - a → get_or (put_mid a (e - a) w ys) (a + j) 0 ≡ 0
+part_zero a e w ys n l z j m =
+    sym (get_or-drop a (put_mid a (e - a) w ys) j 0)
+    ∙ ap (λ (xs : List ℕ). get_or xs j 0) (drop_at (take a w) (ys ++ post_of a (e - a) w) a
+    (length-take-le a w (omega arith)))
+    ∙ get_or-append ys (post_of a (e - a) w) 0 j (omega (arith, ap length z, all, long))
+    ∙ ap (λ (xs : List ℕ). get_or xs j 0) z
+    ∙ get_or-replicate {A = ℕ} (length (mid_of a (e - a) w)) j 0 0 (omega (arith, long))
+  where
+    all : length (zeros (length (mid_of a (e - a) w))) ≡ length (mid_of a (e - a) w)
+    all = length-replicate {A = ℕ} (length (mid_of a (e - a) w)) 0
+
+    long : length (mid_of a (e - a) w) ≡ e - a
+    long = mid_len a e w l
+
 pub part_cleared : (w ys : List ℕ) (k e : ℕ) → 8192 ≤ length w → k ≤ 12 → e ≡ at_sets + 2 ^ k
     → ys ≡ zeros (length (mid_of at_sets (e - at_sets) w)) → Forgotten k w (put_mid at_sets (e - at_sets) w ys)
-part_cleared w ys k e room few q z = record {
-  long = same_len_mid at_sets (e - at_sets) w ys wide;
-  none = λ s l.
-      sym (get_or-drop at_sets (put_mid at_sets (e - at_sets) w ys) s 0)
-      ∙ ap (λ (xs : List ℕ). get_or xs s 0) (drop_at (take at_sets w) (ys ++ post_of at_sets (e - at_sets) w) at_sets
-      (length-take-le at_sets w (omega arith)))
-      ∙ get_or-append ys (post_of at_sets (e - at_sets) w) 0 s (omega (arith, wide, long, q))
-      ∙ ap (λ (xs : List ℕ). get_or xs s 0) z
-      ∙ get_or-replicate {A = ℕ} (length (mid_of at_sets (e - at_sets) w)) s 0 0 (omega (arith, long, q));
-  front = take_put at_sets (e - at_sets) w ys (omega arith);
-}
-  where
-    wide : length ys ≡ length (mid_of at_sets (e - at_sets) w)
-    wide = ap length z ∙ length-replicate {A = ℕ} (length (mid_of at_sets (e - at_sets) w)) 0
-
-    long : length (mid_of at_sets (e - at_sets) w) ≡ e - at_sets
-    long = mid_len at_sets e w (let m : 2 ^ k ≤ 2 ^ 12 = pow_mono few in omega (arith, q))
+part_cleared w ys k e room few q z =
+    let m : 2 ^ k ≤ 2 ^ 12 = pow_mono few in
+    record {
+      long = same_len_mid at_sets (e - at_sets) w ys
+          (ap length z ∙ length-replicate {A = ℕ} (length (mid_of at_sets (e - at_sets) w)) 0);
+      none = λ s l. part_zero at_sets e w ys (omega (arith, q)) (omega (arith, q)) z s (omega (arith, q));
+      front = take_put at_sets (e - at_sets) w ys (omega arith);
+    }
 
 -- ---- being ready
 

@@ -1,7 +1,8 @@
 -- The places of a set. In order: the bits of a set less one place; the places of a set less one place (`places_less`);
 -- the places from one on (`from`), and that none is from k on in a set of the first k places (`from_end`); the lowest
--- place and the others (`first_place`); how many places there are; the same, where the set of one place is given by its
--- number (`without_first`, `fewer_first`, `fewer_next`); that number as a shift (`one_shifted`).
+-- place, as the zeros below it (`lowest_place`), and the others (`first_place`); how many places there are; the same,
+-- where the set of one place is given by its number (`without_first`, `fewer_first`, `fewer_next`); that number as a
+-- shift (`one_shifted`).
 use mathlib.Core.Path.{◌≡◌, refl, sym, ap, ap₂, ◌∙◌}
 use mathlib.Core.Logic.{◌≢◌}
 use mathlib.Core.Bool.{Bool, true, false, cond, ◌||◌}
@@ -13,6 +14,8 @@ use lib.Dec.{eqb}
 use lib.ListN.{length, length-append}
 use lib.Pow.{pow_pos, pow_mono, pow-add, shl_exact, shr-shr}
 use borrow.Author.Tests.{eq-eqb, ne_eqb}
+use Rattle.std.specs.Int.{w64, trailing_zeros}
+use Rattle.std.proofs.lemmas.Nat.Bits.{bit_at-trailing_zeros, bit_at_above}
 use Rattle.matching.specs.Lists.{mem, All}
 use Rattle.matching.specs.Solve.{less}
 use Rattle.matching.proofs.Tests.{Test, pass, fail, eq_test, lt_test}
@@ -107,10 +110,6 @@ module _ (r p : ℕ) (h : r / 2 ^ p % 2 ≡ 1) where
 
 -- ---- the places from one on
 
-pub places_none : (s : ℕ) → places 0 s ≡ []
-unfolding places
-places_none s = refl
-
 pub places_empty : (k s : ℕ) → s ≡ 0 → places k s ≡ []
 unfolding places
 places_empty zero s e = refl
@@ -155,20 +154,20 @@ from_end (suc n) k p s h l =
 
 -- ---- the lowest place, and the others
 
-pub lowest_more : (c s : ℕ) → places c s ≡ [] → s / 2 ^ c % 2 ≢ 1 → places (c + 1) s ≡ []
+places_gone : (c s : ℕ) → ((i : ℕ) → i < c → s / 2 ^ i % 2 ≡ 0) → places c s ≡ []
 unfolding places
-lowest_more c s e n = (let f : c + 1 ≡ suc c = omega arith in rw (f, e, only_out c s n))
+places_gone zero s z = refl
+places_gone (suc c) s z =
+    rw (places_gone c s (λ i l. z i (omega arith)), only_out c s (λ e. omega (arith, e, z c (omega arith))))
 
-pub lowest_still : (c s : ℕ) → 0 < s / 2 ^ c → s / 2 ^ c % 2 ≢ 1 → 0 < s / 2 ^ (c + 1)
-lowest_still c s l n = omega (arith, shr-shr s c 1)
-
-pub lowest_few : (c s : ℕ) → 0 < s / 2 ^ c → s < 4096 → c < 12
-lowest_few c s l m = by_contra (suc c) 12 (λ n. no (omega arith))
-  where
-    no : 12 ≤ c → ⊥
-    no n =
-        (let p : 2 ^ 12 ≤ 2 ^ c = pow_mono n in
-        let z : s / 2 ^ c ≡ 0 = div-eq_of_lt (omega arith) in omega arith)
+pub lowest_place : (s : ℕ) → 0 < s → s < 4096 → Lowest (trailing_zeros w64 s) s
+lowest_place s l m =
+    let t = bit_at-trailing_zeros w64 s l (omega arith) in (
+      by_contra (suc (trailing_zeros w64 s)) 12
+          (λ n. omega (arith, t.1, bit_at_above s 12 (trailing_zeros w64 s) m (omega arith))),
+      t.1,
+      places_gone _ s t.2,
+    )
 
 module _ (c s : ℕ) (l : c < 12) (h : s / 2 ^ c % 2 ≡ 1) (e : places c s ≡ []) where
   from_less : (k d : ℕ) → from k (c + (1 + d)) (s - 2 ^ c) ≡ from k (c + (1 + d)) s

@@ -1,17 +1,22 @@
--- The partners of the lowest place of a set, tried one by one. In order: one more try; the partner had so far
--- (`Tried`), from before the first try to after the last, where it makes the set's word (`tried_all`).
-use mathlib.Core.Path.{◌≡◌, sym, ap, ◌∙◌}
+-- The partners of the lowest place of a set, tried one by one. In order: one more try; the partner that a word tells,
+-- by which the greater of two words is the one to keep (`told_before`); the partner had so far
+-- (`Tried`), from before the first try to after the last, where its word is the set's (`tried_all`).
+use mathlib.Core.Path.{◌≡◌, refl, sym, ap, ◌∙◌}
 use mathlib.Core.Logic.{◌≢◌}
+use mathlib.Core.Bool.{Bool, cond}
 use mathlib.Core.List.{List, ◌∷◌}
-use Prim.Native.Nat.{ℕ, ◌+◌, ◌*◌, ◌-◌, ◌/◌, ◌%◌, ◌^◌, ◌≤◌, ◌<◌}
+use Rattle.std.specs.Prelude.{Option, None, Some}
+use Prim.Native.Nat.{ℕ, ◌+◌, ◌*◌, ◌-◌, ◌/◌, ◌%◌, ◌^◌, ◌≤◌, ◌<◌, max}
 use native.Mathlib.Omega.{arith}
-use native.Mathlib.Numerals.{add-one}
 use lib.ListN.{get_or}
 use borrow.Author.Tests.{lt-ltb, le-ltb}
+use Rattle.std.specs.Option.{IfSome}
+use Rattle.std.proofs.lemmas.Option.{IfSome_then}
+use Rattle.matching.proofs.Tests.{Test, pass, fail, lt_test}
 use Rattle.matching.specs.Pairs.{Pair, Points, sum}
 use Rattle.matching.specs.Solve.{less, tries, solve}
 use Rattle.buffers.specs.Map.{unit}
-use Rattle.sets.specs.Sets.{in_set, between, heaviest, points, Lowest, partnered, Partner, Best}
+use Rattle.sets.specs.Sets.{in_set, between, heaviest, points, Lowest, partnered, Partner, told, partner_told, Best}
 use Rattle.sets.proofs.Places.{places_less, from, others_from, from_in, from_out, from_end, places_few}
 use Rattle.sets.proofs.Places.{without_first, lowest_one}
 use Rattle.sets.proofs.Heaviest.{solve_more, word_light}
@@ -29,91 +34,141 @@ module _ (f : ℕ → List Pair) (w : Points) (c p : ℕ) (ps : List ℕ) (had :
     try_worse : w c p + sum w k ≤ sum w had → tries f w c (p ∷ ps) had ≡ tries f w c ps had
     try_worse m = rw (e, lt-ltb 0 (w c p) l, le-ltb (sum w had) (w c p + sum w k) m)
 
+-- ---- the partner that a word tells
+
+told_some : (x y : ℕ) → told x ≡ Some y → x + y ≡ 14
+told_some x y = go (lt_test 14 x)
+  where
+    go : {t : Bool} → Test (14 < x) (x ≤ 14) t → cond t None (Some (14 - x)) ≡ Some y → x + y ≡ 14
+    go (pass l) e = cc
+    go (fail l) e = let q : 14 - x ≡ y = cc in omega arith
+
+told_none : (x : ℕ) → told x ≡ None → 14 < x
+told_none x = go (lt_test 14 x)
+  where
+    go : {t : Bool} → Test (14 < x) (x ≤ 14) t → cond t None (Some (14 - x)) ≡ None → 14 < x
+    go (pass l) e = l
+    go (fail l) e = cc
+
+-- of words of as many points, the one of the earlier partner is the greater
+told_before : (v n p : ℕ) → IfSome (partner_told v) (λ x. x < p) → partner_told n ≡ Some p → n / 16 ≤ v / 16 → n ≤ v
+told_before v n p b o m = go (partner_told v) refl b
+  where
+    go : (r : Option ℕ) → partner_told v ≡ r → IfSome r (λ x. x < p) → n ≤ v
+    go None e h = omega (arith, told_none (v % 16) e, told_some (n % 16) p o)
+    go (Some x) e h = omega (arith, told_some (v % 16) x e, told_some (n % 16) p o)
+
 -- ---- the partner had so far
 
 -- What comes of the places from p on as partners of c, where a pairing is had.
 abbrev pub onward : List ℕ → ℕ → ℕ → List ℕ → List Pair → List Pair
 onward ws c rest = tries (λ q. solve 12 (between ws) (less q (in_set rest))) (between ws) c
 
--- Of the lowest place c of the set s, the places from p on of the rest are still to be tried as partners: the partner
--- had, and the points with it.
-pub record Tried (ws : List ℕ) (s c rest p best r : ℕ) : Type 0 where
+-- Of the lowest place c of the set s, the places from p on of the rest are still to be tried as partners: the word v
+-- tells the partner had, which comes before them, and the points with it.
+pub record Tried (ws : List ℕ) (s c rest p v : ℕ) : Type 0 where
   pub low : Lowest c s
   pub others : rest ≡ s - 2 ^ c
-  pub whole : heaviest ws s ≡ onward ws c rest (from (12 - p) p rest) (partnered ws c rest r)
-  pub sums : best ≡ sum (between ws) (partnered ws c rest r)
-  pub within : Partner rest r
+  pub whole : heaviest ws s ≡ onward ws c rest (from (12 - p) p rest) (partnered ws c rest (partner_told v))
+  pub marked : 0 < v % 16
+  pub sums : v / 16 ≡ sum (between ws) (partnered ws c rest (partner_told v))
+  pub within : Partner rest (partner_told v)
+  pub before : IfSome (partner_told v) (λ x. x < p)
 
-pub tried_first : {ws : List ℕ} {s c b v : ℕ} → b ≡ 2 ^ c → Lowest c s → Best ws (s - b) v
-    → Tried ws s c (s - b) (c + 1) (v / 16) 0
-tried_first {ws} {s} {c} {b} e l v = record {
-  low = l;
-  others = ap (λ (x : ℕ). s - x) e;
-  whole = sym (solve_more 12 (between ws) (in_set s) (places_few 12 s))
-      ∙ ap (solve 13 (between ws)) (without_first c s e l).1
-      ∙ ap (λ ps. onward ws c (s - b) ps (heaviest ws (s - b))) (sym (others_from c s e l));
-  sums = v.sums;
-  within = (omega arith, λ z. absurd (omega arith));
-}
+pub tried_first : {ws : List ℕ} {s c b u v : ℕ} → b ≡ 2 ^ c → Lowest c s → Best ws (s - b) u → 0 < v % 16
+    → v / 16 ≡ u / 16 → partner_told v ≡ None → Tried ws s c (s - b) (c + 1) v
+tried_first {ws} {s} {c} {b} {u} {v} e l h m y o =
+    let with_none = ap (partnered ws c (s - b)) o in
+    record {
+      low = l;
+      others = ap (λ (x : ℕ). s - x) e;
+      whole = sym (solve_more 12 (between ws) (in_set s) (places_few 12 s))
+          ∙ ap (solve 13 (between ws)) (without_first c s e l).1
+          ∙ ap (λ ps. onward ws c (s - b) ps (heaviest ws (s - b))) (sym (others_from c s e l))
+          ∙ ap (onward ws c (s - b) (from (12 - (c + 1)) (c + 1) (s - b))) (sym with_none);
+      marked = m;
+      sums = y ∙ h.sums ∙ ap (sum (between ws)) (sym with_none);
+      within = rw o tt;
+      before = rw o tt;
+    }
 
-module _ {ws : List ℕ} {s c rest p best r : ℕ} (t : Tried ws s c rest p best r) where
-  pub tried_all : {k : ℕ} → s < 2 ^ k → k ≤ p → Best ws s (best * 16 + r + 1)
+module _ {ws : List ℕ} {s c rest p v : ℕ} (t : Tried ws s c rest p v) where
+  abbrev had : List Pair
+  had = partnered ws c rest (partner_told v)
+
+  pub tried_all : {k : ℕ} → s < 2 ^ k → k ≤ p → Best ws s v
   tried_all {k} h m =
       let none = from_end (12 - p) k p rest (omega (arith, t.others)) m in
-      let done = t.whole ∙ ap (λ ps. onward ws c rest ps (partnered ws c rest r)) none in
-      let its_points : (best * 16 + r + 1) / 16 ≡ best = omega (arith, t.within.0) in
-      let its_partner : (best * 16 + r + 1) % 16 - 1 ≡ r = omega (arith, t.within.0) in
+      let done = t.whole ∙ ap (λ ps. onward ws c rest ps had) none in
       record {
-        marked = omega (arith, t.within.0);
-        sums = its_points ∙ t.sums ∙ ap (sum (between ws)) (sym done);
-        leads = λ {c = d} q o. rw (q, lowest_one d c s o t.low, ← t.others, its_partner) (t.within, done);
+        marked = t.marked;
+        sums = t.sums ∙ ap (sum (between ws)) (sym done);
+        leads = λ {c = d} q o. rw (q, lowest_one d c s o t.low, ← t.others) (t.within, done);
       }
 
   module _ (l : p < 12) where
-    next : heaviest ws s ≡ onward ws c rest (from (12 - (p + 1)) (p + 1) rest) (partnered ws c rest r)
-        → Tried ws s c rest (p + 1) best r
-    next e = record { low = t.low; others = t.others; whole = e; sums = t.sums; within = t.within }
+    next : heaviest ws s ≡ onward ws c rest (from (12 - (p + 1)) (p + 1) rest) had → Tried ws s c rest (p + 1) v
+    next e = record {
+      low = t.low;
+      others = t.others;
+      whole = e;
+      marked = t.marked;
+      sums = t.sums;
+      within = t.within;
+      before = IfSome_then (partner_told v) t.before (λ x h. omega arith);
+    }
 
-    pub tried_fits : {x v : ℕ} → ((i : ℕ) → i < 144 → get_or ws i 0 < unit) → Best ws x v
-        → between ws c p + v / 16 < 13 * unit
+    pub tried_fits : {x u : ℕ} → ((i : ℕ) → i < 144 → get_or ws i 0 < unit) → Best ws x u
+        → between ws c p + u / 16 < 13 * unit
     tried_fits h b = omega (arith, h (12 * c + p) (omega (arith, t.low.0)), word_light h b)
 
-    pub tried_out : rest / 2 ^ p % 2 ≢ 1 → Tried ws s c rest (p + 1) best r
-    tried_out n = next (t.whole ∙ ap (λ ps. onward ws c rest ps (partnered ws c rest r)) (from_out p rest l n))
+    pub tried_out : rest / 2 ^ p % 2 ≢ 1 → Tried ws s c rest (p + 1) v
+    tried_out n = next (t.whole ∙ ap (λ ps. onward ws c rest ps had) (from_out p rest l n))
 
     module _ (b : rest / 2 ^ p % 2 ≡ 1) where
       abbrev after : List ℕ
       after = from (12 - (p + 1)) (p + 1) rest
 
-      here : heaviest ws s ≡ onward ws c rest (p ∷ after) (partnered ws c rest r)
-      here = t.whole ∙ ap (λ ps. onward ws c rest ps (partnered ws c rest r)) (from_in p rest l b)
+      here : heaviest ws s ≡ onward ws c rest (p ∷ after) had
+      here = t.whole ∙ ap (λ ps. onward ws c rest ps had) (from_in p rest l b)
 
       less_here : solve 12 (between ws) (less p (in_set rest)) ≡ heaviest ws (rest - 2 ^ p)
       less_here = ap (solve 12 (between ws)) (places_less rest p b 12)
 
-      pub tried_light : between ws c p ≤ 0 → Tried ws s c rest (p + 1) best r
-      tried_light z = next (here ∙ try_none _ (between ws) c p after (partnered ws c rest r) z)
+      pub tried_light : between ws c p ≤ 0 → Tried ws s c rest (p + 1) v
+      tried_light z = next (here ∙ try_none _ (between ws) c p after had z)
 
-      module _ {d v : ℕ} (q : d ≡ 2 ^ p) (e : Best ws (rest - d) v) (z : 0 < between ws c p) where
-        sums_here : v / 16 ≡ points ws (rest - 2 ^ p)
-        sums_here = e.sums ∙ ap (λ x. points ws (rest - x)) q
+      -- the word n tells the partner p, and the points with it
+      module _ {d u : ℕ} (n : ℕ) (q : d ≡ 2 ^ p) (e : Best ws (rest - d) u) (z : 0 < between ws c p) (k : 0 < n % 16)
+          (y : n / 16 ≡ between ws c p + u / 16) (o : partner_told n ≡ Some p) where
+        sums_here : n / 16 ≡ between ws c p + points ws (rest - 2 ^ p)
+        sums_here = y ∙ ap (λ (x : ℕ). between ws c p + x) (e.sums ∙ ap (λ x. points ws (rest - x)) q)
 
-        pub tried_worse : between ws c p + v / 16 ≤ best → Tried ws s c rest (p + 1) best r
+        tried_worse : n / 16 ≤ v / 16 → Tried ws s c rest (p + 1) v
         tried_worse m =
-            next (here ∙ try_worse _ (between ws) c p after (partnered ws c rest r) less_here z
-            (omega (arith, sums_here, t.sums)))
+            next (here ∙ try_worse _ (between ws) c p after had less_here z (omega (arith, sums_here, t.sums)))
 
-        pub tried_better : best < between ws c p + v / 16
-            → Tried ws s c rest (p + 1) (between ws c p + v / 16) (p + 1)
+        tried_better : v / 16 < n / 16 → Tried ws s c rest (p + 1) n
         tried_better m =
-            let with_p = ap (partnered ws c rest) (add-one p) in
-            let own : p + 1 - 1 ≡ p = omega arith in
+            let with_p = ap (partnered ws c rest) o in
             record {
               low = t.low;
               others = t.others;
-              whole = here ∙ try_better _ (between ws) c p after (partnered ws c rest r) less_here z
+              whole = here ∙ try_better _ (between ws) c p after had less_here z
                   (omega (arith, sums_here, t.sums))
                   ∙ ap (onward ws c rest after) (sym with_p);
-              sums = ap (λ (x : ℕ). between ws c p + x) sums_here ∙ ap (sum (between ws)) (sym with_p);
-              within = (omega arith, λ n. rw own b);
+              marked = k;
+              sums = sums_here ∙ ap (sum (between ws)) (sym with_p);
+              within = rw o (l, b);
+              before = rw o (omega arith);
             }
+
+        -- the word of more points is the greater; of as many, the one had
+        pub tried_next : Tried ws s c rest (p + 1) (max v n)
+        tried_next = go (lt_test (v / 16) (n / 16))
+          where
+            go : {f : Bool} → Test (v / 16 < n / 16) (n / 16 ≤ v / 16) f → Tried ws s c rest (p + 1) (max v n)
+            go (pass m) = let i : max v n ≡ n = omega arith in rw i (tried_better m)
+            go (fail m) =
+                let i : max v n ≡ v = omega (arith, told_before v n p t.before o m) in
+                rw i (tried_worse m)

@@ -4,8 +4,9 @@
 --
 -- The words ws have the points from place i to a higher place j at 12 × i + j. In the buffer w1 stands, from `at_sets`
 -- on, for each set of the first k places 0 or its word (`Best`).
-use Rattle.std.specs.Prelude.{◌≡◌, cond, List, [], ◌∷◌, ◌++◌, ℕ, zero, suc, ◌+◌, ◌*◌, ◌-◌, ◌/◌, ◌%◌, ◌^◌, ◌≤◌, ◌<◌, eqb}
-use Rattle.std.specs.Prelude.{length, get_or, take}
+use Rattle.std.specs.Prelude.{◌≡◌, cond, List, [], ◌∷◌, ◌++◌, ℕ, zero, suc, ◌+◌, ◌*◌, ◌-◌, ◌/◌, ◌%◌, ◌^◌, ◌≤◌, ◌<◌}
+use Rattle.std.specs.Prelude.{eqb, ltb, length, get_or, take, Option, None, Some}
+use Rattle.std.specs.Option.{IfSome}
 use Rattle.matching.specs.Pairs.{Pair, Points, sum}
 use Rattle.matching.specs.Solve.{solve}
 use Rattle.buffers.specs.Map.{unit, at_sets}
@@ -33,22 +34,27 @@ points ws s = sum (between ws) (heaviest ws s)
 abbrev pub Lowest : ℕ → ℕ → Type 0
 Lowest c s = (c < 12) × (s / 2 ^ c % 2 ≡ 1) × (places c s ≡ [])
 
--- The heaviest pairing of the place c and a set above it in which c has that partner: 0 where it has none, else the
--- partner's place and 1; such a number for the set.
-abbrev pub partnered : List ℕ → ℕ → ℕ → ℕ → List Pair
-partnered ws c rest zero = heaviest ws rest
-partnered ws c rest (suc p) = (c, p) ∷ heaviest ws (rest - 2 ^ p)
+-- The heaviest pairing of the place c and a set above it in which c has that partner, if any; such a partner.
+abbrev pub partnered : List ℕ → ℕ → ℕ → Option ℕ → List Pair
+partnered ws c rest None = heaviest ws rest
+partnered ws c rest (Some p) = (c, p) ∷ heaviest ws (rest - 2 ^ p)
 
-abbrev pub Partner : ℕ → ℕ → Type 0
-Partner rest r = (r ≤ 12) × (0 < r → rest / 2 ^ (r - 1) % 2 ≡ 1)
+abbrev pub Partner : ℕ → Option ℕ → Type 0
+Partner rest r = IfSome r (λ p. (p < 12) × (rest / 2 ^ p % 2 ≡ 1))
 
--- The word v of a set: the points of its heaviest pairing, and in the four bits below, its lowest place's partner in it
--- and 1.
+-- The partner that a word tells in its four low bits: 15 where there is none, else 14 less the partner's place.
+abbrev pub told : ℕ → Option ℕ
+told x = cond (ltb 14 x) None (Some (14 - x))
+
+abbrev pub partner_told : ℕ → Option ℕ
+partner_told v = told (v % 16)
+
+-- The word v of a set: the points of its heaviest pairing, and its lowest place's partner in it.
 pub record Best (ws : List ℕ) (s v : ℕ) : Type 0 where
   pub marked : 0 < v % 16
   pub sums : v / 16 ≡ points ws s
   pub leads : {c b : ℕ} → b ≡ 2 ^ c → Lowest c s
-      → Partner (s - b) (v % 16 - 1) × (heaviest ws s ≡ partnered ws c (s - b) (v % 16 - 1))
+      → Partner (s - b) (partner_told v) × (heaviest ws s ≡ partnered ws c (s - b) (partner_told v))
 
 -- What is known of sets of the first k places is right.
 abbrev pub Known : List ℕ → ℕ → List ℕ → Type 0
@@ -76,12 +82,12 @@ pub record Forgotten (k : ℕ) (w0 w1 : List ℕ) : Type 0 where
   pub front : take at_sets w1 ≡ take at_sets w0
 
 -- The heaviest pairing of the set s is that of the rest, with the lowest place and its partner where it has one.
-abbrev pub with_partner : ℕ → ℕ → List Pair → List Pair
-with_partner c zero m = m
-with_partner c (suc p) m = (c, p) ∷ m
+abbrev pub with_partner : ℕ → Option ℕ → List Pair → List Pair
+with_partner c None m = m
+with_partner c (Some p) m = (c, p) ∷ m
 
 pub record Takes (ws : List ℕ) (s : ℕ) (t : Taken) : Type 0 where
   pub low : t.low < 12
-  pub partner : t.partner ≤ 12
+  pub partner : IfSome t.partner (λ p. p < 12)
   pub fewer : t.rest < s
   pub leads : heaviest ws s ≡ with_partner t.low t.partner (heaviest ws t.rest)

@@ -1,28 +1,67 @@
 // Inner, for solving: the heaviest pairing of a set of at most 12 cells, by their places. See specs/Sets.
 #![tactic(auto)]
 
-ghost use Rattle.std.specs.Prelude.{◌≡◌, ◌-◌, ◌^◌, ◌<◌, ◌≤◌, length};
-ghost use Rattle.sets.specs.Sets.{points, Lowest, Best, Kept, Ready, Forgotten, Takes};
+ghost use Rattle.std.specs.Prelude.{◌≡◌, ◌-◌, ◌/◌, ◌%◌, ◌^◌, ◌<◌, ◌≤◌, max, length};
+ghost use Rattle.std.specs.Option.{IfSome};
+ghost use Rattle.sets.specs.Sets.{points, partner_told, Lowest, Best, Kept, Ready, Forgotten, Takes};
 
-use buffers;
 use buffers::map::SETS;
 
 // How many places there are at most.
 pub const MOST: usize = 12;
 
-// One of the points in the word of a set, above the partner and 1.
-const POINT: u64 = 16;
-
-// The lowest place of a set with its partner in the set's heaviest pairing (0 where it has none, else the partner's
-// place and 1), and the set without them.
+// The lowest place of a set with its partner in the set's heaviest pairing, and the set without them.
 #[derive(Clone, Copy)]
 pub struct Taken {
     pub low: usize,
-    pub partner: usize,
+    pub partner: Option<usize>,
     pub rest: usize,
 }
 
+// What the table has of a set, or 0 where nothing is known of it: the points of its heaviest pairing, and below them
+// the partner of its lowest place, as 14 less the partner's place, or 15 where it has none. So the greater of two words
+// has more points, or as many and no partner or the earlier one.
+#[derive(Clone, Copy)]
+struct Word(u64);
+
+impl Word {
+    // One of the points, above the partner.
+    const POINT: u64 = 16;
+
+    fn of(points: u64, partner: Option<usize>) -> Word
+        requires { (points < 2 ^ 59) × IfSome partner (λ p. p < 12) }
+        ensures known { 0 < result.0 % 16 }
+        ensures points { result.0 / 16 ≡ points }
+        ensures partner { partner_told result.0 ≡ partner }
+    {
+        let told = match partner {
+            None => 15,
+            Some(p) => 14 - p as u64,
+        };
+        Word(points * Self::POINT + told)
+    }
+
+    fn points(self) -> u64
+        ensures { result ≡ self.0 / 16 }
+    {
+        self.0 / Self::POINT
+    }
+
+    fn partner(self) -> Option<usize>
+        ensures { result ≡ partner_told self.0 }
+    {
+        14u64.checked_sub(self.0 % Self::POINT).map(|p| p as usize)
+    }
+
+    fn max(self, other: Word) -> Word
+        ensures { result.0 ≡ max self.0 other.0 }
+    {
+        Word(self.0.max(other.0))
+    }
+}
+
 // The set of the first k places.
+#[tactic(auto, using(crate::proofs::Places::one_shifted))]
 pub fn first_places(k: usize) -> usize
     requires { k ≤ 12 }
     ensures { result ≡ 2 ^ k - 1 }
@@ -36,22 +75,20 @@ pub fn clear_sets(w1: &mut [u64], k: usize)
     ensures { Forgotten k w1.old w1.new }
 {
     let end = SETS + (1 << k);
-    buffers::clear(&mut w1[SETS..end]);
+    w1[SETS..end].fill(0);
 }
 
 // The lowest place of the set.
+#[tactic(auto, using(crate::proofs::Places::lowest_place))]
 fn lowest(s: usize) -> usize
     requires { (0 < s) × (s < 4096) }
     ensures { Lowest result s }
 {
-    let mut c = 0;
-    while (s >> c) % 2 == 0 {
-        c += 1;
-    }
-    c
+    s.trailing_zeros() as usize
 }
 
 // The set of one place.
+#[tactic(auto, using(crate::proofs::Places::one_shifted))]
 fn single(p: usize) -> usize
     requires { p < 12 }
     ensures { result ≡ 2 ^ p }
@@ -59,51 +96,42 @@ fn single(p: usize) -> usize
     1 << p
 }
 
-// The word of the set s of some of the first k places: the points of its heaviest pairing, and the partner of its
-// lowest place in it (0 where it has none, else the partner's place and 1). It is kept in the table.
+// The word of the set s of some of the first k places. It is kept in the table.
 #[cycle(heavy_word_of)]
-fn word_of(ws: &[u64], w1: &mut [u64], k: usize, s: usize) -> u64
+fn word_of(ws: &[u64], w1: &mut [u64], k: usize, s: usize) -> Word
     requires { Ready ws.now w1.old k s }
-    ensures { Best ws.now s result × Kept ws.now k w1.old w1.new }
+    ensures { Best ws.now s result.0 × Kept ws.now k w1.old w1.new }
 {
     let have = w1[SETS + s];
     if have != 0 {
-        return have;
+        return Word(have);
     }
     heavy(ws, w1, k, s)
 }
 
 // The same, worked out from the words of smaller sets.
 #[cycle(heavy_word_of)]
-fn heavy(ws: &[u64], w1: &mut [u64], k: usize, s: usize) -> u64
+fn heavy(ws: &[u64], w1: &mut [u64], k: usize, s: usize) -> Word
     requires { Ready ws.now w1.old k s }
-    ensures { Best ws.now s result × Kept ws.now k w1.old w1.new }
+    ensures { Best ws.now s result.0 × Kept ws.now k w1.old w1.new }
 {
     if s == 0 {
-        return 1;
+        return Word::of(0, None);
     }
     let c = lowest(s);
     let rest = s - single(c);
-    let mut best = word_of(ws, w1, k, rest) / POINT;
-    let mut partner = 0;
-    let mut p = c + 1;
-    while p < k {
-        let q = p;
-        p += 1;
+    let mut best = Word::of(word_of(ws, w1, k, rest).points(), None);
+    for q in c + 1..k {
         if (rest >> q) % 2 == 1 {
             let x = ws[MOST * c + q];
             if 0 < x {
-                let y = x + word_of(ws, w1, k, rest - single(q)) / POINT;
-                if best < y {
-                    best = y;
-                    partner = p;
-                }
+                let y = x + word_of(ws, w1, k, rest - single(q)).points();
+                best = best.max(Word::of(y, Some(q)));
             }
         }
     }
-    let word = best * POINT + partner as u64 + 1;
-    w1[SETS + s] = word;
-    word
+    w1[SETS + s] = best.0;
+    best
 }
 
 // The points of the heaviest pairing of the set s, of which nothing is known. (That `heavy` is called here and not
@@ -113,7 +141,7 @@ pub fn points_of(ws: &[u64], w1: &mut [u64], k: usize, s: usize) -> u64
     ensures { (result ≡ points ws.now s)
         × Kept ws.now k w1.old w1.new }
 {
-    heavy(ws, w1, k, s) / POINT
+    heavy(ws, w1, k, s).points()
 }
 
 // The lowest place of the set s and its partner in the heaviest pairing of the set.
@@ -122,16 +150,12 @@ pub fn take_lowest(ws: &[u64], w1: &mut [u64], k: usize, s: usize) -> Taken
     ensures { Takes ws.now s result
         × Kept ws.now k w1.old w1.new }
 {
-    let partner = (word_of(ws, w1, k, s) % POINT - 1) as usize;
+    let partner = word_of(ws, w1, k, s).partner();
     let low = lowest(s);
-    let rest = s - single(low);
-    if partner == 0 {
-        return Taken { low, partner, rest };
-    }
-    let others = rest - single(partner - 1);
-    Taken {
-        low,
-        partner,
-        rest: others,
-    }
+    let others = s - single(low);
+    let rest = match partner {
+        None => others,
+        Some(p) => others - single(p),
+    };
+    Taken { low, partner, rest }
 }

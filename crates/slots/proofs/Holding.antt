@@ -1,5 +1,5 @@
 -- What callers need of buffers that hold a graph, so that they never look into `Holds`. In order: their room; a word on
--- the trail or the slip changes nothing (`holds_aside`, `holds_trail`); a pair put in either order of its cells
+-- the trail or the slip changes nothing (`holds_kept`, `holds_aside`, `holds_trail`); a pair put in either order of its cells
 -- (`put_turned`); the pair that a live slot joins, and the slots that stay when another goes (`joins_put`, `joins_one`,
 -- `joins_pair`, `joins_other`). Assumes nothing.
 use mathlib.Core.Path.{◌≡◌, refl, ap, ◌∙◌, fun_ext}
@@ -9,7 +9,7 @@ use mathlib.Core.List.{List, []}
 use Prim.Native.Nat.{ℕ, ◌+◌, ◌≤◌, ◌<◌}
 use native.Mathlib.Omega.{arith}
 use lib.Dec.{eqb}
-use lib.ListN.{length, set}
+use lib.ListN.{length, get_or, set}
 use Rattle.buffers.specs.Map.{at_cells, trail_room, at_sums, at_lasts, at_names}
 use Rattle.matching.specs.Pairs.{Points}
 use Rattle.matching.specs.Graph.{put}
@@ -28,13 +28,13 @@ holds_room h = (h.room1, h.room2, h.slots.most)
 
 -- ---- words aside
 
--- a word of the second buffer that is not the graph's is set
-pub holds_aside : {e : ℕ} {w1 w2 : List ℕ} → Holds e w1 w2 → (t k : ℕ) → (t < trail_room) ⊎ (at_names ≤ t)
-    → Holds e w1 (set w2 t k)
+-- the graph's words of the second buffer stay
+pub holds_kept : {e : ℕ} {w1 w2 : List ℕ} → Holds e w1 w2 → (v : List ℕ) → 8192 ≤ length v
+    → ((j : ℕ) → at_sums ≤ j → j < at_names → get_or v j 0 ≡ get_or w2 j 0) → Holds e w1 v
 unfolding graph
-holds_aside {e} {w1} {w2} h t k off = record {
+holds_kept {e} {w1} {w2} h v room same = record {
   room1 = h.room1;
-  room2 = omega (arith, h.room2, as_long w2 t k refl);
+  room2 = room;
   slots = record {
     most = h.slots.most;
     cells = h.slots.cells;
@@ -43,16 +43,21 @@ holds_aside {e} {w1} {w2} h t k off = record {
       (h.slots.links i m).0 ∙ lasts_kept (low_of w1 i) i,
       (h.slots.links i m).1 ∙ lasts_kept (high_of w1 i) i,
     );
-    sums = λ c m. elsewhere w2 t k refl (at_sums + c) (apart (at_sums + c) (omega arith) (omega arith) off)
-        ∙ h.slots.sums c m;
-    lasts = λ c m. elsewhere w2 t k refl (at_lasts + c) (apart (at_lasts + c) (omega arith) (omega arith) off)
-        ∙ h.slots.lasts c m ∙ lasts_kept c e;
+    sums = λ c m. same (at_sums + c) (omega arith) (omega arith) ∙ h.slots.sums c m;
+    lasts = λ c m. same (at_lasts + c) (omega arith) (omega arith) ∙ h.slots.lasts c m ∙ lasts_kept c e;
   };
 }
   where
-    lasts_kept : (c i : ℕ) → last (store w1 w2) c i ≡ last (store w1 (set w2 t k)) c i
-    lasts_kept c i = last_same (store w1 (set w2 t k)) (store w1 w2) c i (λ j m. (refl, refl))
+    lasts_kept : (c i : ℕ) → last (store w1 w2) c i ≡ last (store w1 v) c i
+    lasts_kept c i = last_same (store w1 v) (store w1 w2) c i (λ j m. (refl, refl))
 
+-- a word of it that is not the graph's is set
+pub holds_aside : {e : ℕ} {w1 w2 : List ℕ} → Holds e w1 w2 → (t k : ℕ) → (t < trail_room) ⊎ (at_names ≤ t)
+    → Holds e w1 (set w2 t k)
+holds_aside {w2 = w2} h t k off =
+    holds_kept h (set w2 t k) (omega (arith, h.room2, as_long w2 t k refl))
+    (λ j a b. elsewhere w2 t k refl j (apart j a b off))
+  where
     apart : (j : ℕ) → at_sums ≤ j → j < at_names → (t < trail_room) ⊎ (at_names ≤ t) → j ≢ t
     apart j a b (inl l) = λ q. omega arith
     apart j a b (inr l) = λ q. omega arith

@@ -3,7 +3,7 @@
 use mathlib.Core.Path.{◌≡◌, refl, sym, ap, ◌∙◌, fun_ext}
 use mathlib.Core.Logic.{◌⊎◌, inl, inr, ◌≢◌}
 use mathlib.Core.Bool.{Bool, true, false, cond}
-use mathlib.Core.List.{List, [], ◌∷◌}
+use mathlib.Core.List.{[], ◌∷◌}
 use Prim.Native.Nat.{ℕ, ◌-◌, ◌≤◌, ◌<◌}
 use native.Mathlib.Omega.{arith}
 use lib.ListN.{get_or}
@@ -15,7 +15,10 @@ use Rattle.matching.proofs.Members.{mem_one}
 use Rattle.matching.proofs.Pairs.{Same, Apart, same_test}
 use Rattle.matching.proofs.Sums.{touches_test}
 use Rattle.matching.proofs.Partners.{has_partner}
-use Rattle.slots.specs.Slots.{store, Holds, graph_of, low_of, high_of, Joins, Changed, less_all}
+use Rattle.slots.specs.Slots.{store, low_of, high_of, Joins, less_all}
+use Rattle.slots.specs.Working.{graph_in, Changes}
+use Rattle.slots.specs.declared.graph.WorkingGraph.{WorkingGraph}
+use Rattle.slots.proofs.Working.{buffers_on}
 use Rattle.slots.proofs.Stores.{aside_on}
 use Rattle.slots.proofs.Graphs.{join_test, same_swap, apart_not, holds_graph, joins_points}
 
@@ -53,25 +56,27 @@ module _ {n : ℕ} {g : Points} (G : Graph n g) (u v x y p : ℕ) (is : Same x y
       go (fail k) (fail m) true = ap (λ (z : ℕ). g a b - z) ep
       go (fail k) (fail m) false = refl
 
-pub leaf_holds : {e u v i : ℕ} {w1 w2 w1' w2' w1'' w2'' : List ℕ} → Holds e w1 w2 → Joins e w1 i u v
-    → partners 1024 (graph_of e w1) v ≡ u ∷ []
-    → Changed e (put (low_of w1 i) (high_of w1 i) 0 (graph_of e w1)) w1' w2 w2'
-    → Changed e (less_all u (get_or w1 i 0) (graph_of e w1')) w1'' w2' w2''
-    → (get_or w1 i 0 ≡ graph_of e w1 u v) × Changed e (leafed (graph_of e w1) u v) w1'' w2 w2''
-leaf_holds {e} {u} {v} {i} {w1} {w2} {w1'} {w2'} {w1''} {w2''} h j one k l = (
+pub leaf_holds : {u v i : ℕ} {g g' g'' : WorkingGraph} → Joins g.slots g.w1.now i u v
+    → partners 1024 (graph_in g) v ≡ u ∷ []
+    → Changes g.slots (put (low_of g.w1.now i) (high_of g.w1.now i) 0 (graph_in g)) g g'
+    → Changes g'.slots (less_all u (get_or g.w1.now i 0) (graph_in g')) g' g''
+    → (get_or g.w1.now i 0 ≡ graph_in g u v) × Changes g.slots (leafed (graph_in g) u v) g g''
+leaf_holds {u} {v} {i} {g} {g'} {g''} j one k l = (
   points,
   record {
-    holds = l.holds;
-    graph = l.graph ∙ ap (less_all u (get_or w1 i 0)) k.graph ∙ fun_ext (λ a. fun_ext (λ b. step a b));
-    aside = aside_on w2 w2' w2'' k.aside l.aside;
+    slots = l.slots ∙ k.slots;
+    graph = l.graph ∙ ap (less_all u (get_or g.w1.now i 0)) k.graph ∙ fun_ext (λ a. fun_ext (λ b. step a b));
+    aside = aside_on g.w2.now g'.w2.now g''.w2.now k.aside l.aside;
+    buffers = buffers_on k.buffers l.buffers;
   },
 )
   where
-    points : get_or w1 i 0 ≡ graph_of e w1 u v
-    points = sym (joins_points h j)
+    points : get_or g.w1.now i 0 ≡ graph_in g u v
+    points = sym (joins_points g.holds j)
 
-    step : (a b : ℕ) → less_all u (get_or w1 i 0) (put (low_of w1 i) (high_of w1 i) 0 (graph_of e w1)) a b
-        ≡ leafed (graph_of e w1) u v a b
+    step : (a b : ℕ)
+        → less_all u (get_or g.w1.now i 0) (put (low_of g.w1.now i) (high_of g.w1.now i) 0 (graph_in g)) a b
+        ≡ leafed (graph_in g) u v a b
     step =
-        leaf_at (holds_graph h) u v (low_of w1 i) (high_of w1 i) (get_or w1 i 0)
-        (holds (join_test (store w1 w2) i u v) j.cells) (only_pair (holds_graph h) u v one) points
+        leaf_at (holds_graph g.holds) u v (low_of g.w1.now i) (high_of g.w1.now i) (get_or g.w1.now i 0)
+        (holds (join_test (store g.w1.now []) i u v) j.cells) (only_pair (holds_graph g.holds) u v one) points

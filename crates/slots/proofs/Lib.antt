@@ -16,3 +16,4 @@ pub mod Stepping
 pub mod Finding
 pub mod Holding
 pub mod Scanning
+pub mod Working

@@ -1,135 +1,116 @@
--- Gone slots are dropped in place. In order: cells whose words are cleared have no slot (`none_more`); the slots met
--- so far stand packed (`Packed`, `pack_start`, `pack_live`, `pack_dead`, `pack_end`). Assumes nothing.
-use mathlib.Core.Path.{◌≡◌, refl, sym, ap, ◌∙◌}
-use mathlib.Core.Logic.{◌≢◌}
-use mathlib.Core.Bool.{Bool}
+-- Gone slots are dropped in place. In order: cells whose words are cleared have no slot (`cleared_none`), and nothing
+-- aside changed; the slots met so far stand packed (`Packed`, `pack_start`, `pack_live`, `pack_dead`, `pack_end`).
+-- Assumes nothing.
+use mathlib.Core.Path.{◌≡◌, refl, sym, subst, ◌∙◌}
+use mathlib.Core.Logic.{inl, inr}
 use mathlib.Core.List.{List, []}
 use Prim.Native.Nat.{ℕ, ◌+◌, ◌≤◌, ◌<◌}
 use native.Mathlib.Omega.{arith}
 use native.Mathlib.Numerals.{add-one}
-use lib.ListN.{length, get_or, set}
+use lib.ListN.{length, get_or, take, drop, replicate}
+use borrow.Rule.Slice.PartMut.{put_mid}
+use Rattle.buffers.proofs.Filled.{zero_in, same_out, as_long}
 use Rattle.buffers.specs.Map.{at_cells, at_sums, at_lasts}
 use Rattle.matching.specs.Graph.{put}
-use Rattle.matching.proofs.Tests.{Test, pass, fail, eq_test}
-use Rattle.slots.specs.Slots.{total, store, graph, Holds, graph_of, low_of, high_of, Aside, Changed, Beyond, NoSlots}
-use Rattle.slots.specs.Slots.{live}
-use Rattle.slots.proofs.Stores.{stored_first, stored_last, elsewhere_both, aside_both, aside_on}
-use Rattle.slots.proofs.Graphs.{graph_gone, graph_put, holds_none}
+use Rattle.slots.specs.Slots.{total, store, graph, graph_of, low_of, high_of, Aside, Beyond, NoSlots, live}
+use Rattle.slots.specs.Working.{graph_in, SameBuffers, Changes}
+use Rattle.slots.specs.declared.graph.WorkingGraph.{WorkingGraph}
+use Rattle.slots.proofs.Working.{buffers_on}
+use Rattle.slots.proofs.Stores.{aside_on}
+use Rattle.slots.proofs.Graphs.{graph_gone, graph_put}
 use Rattle.slots.proofs.Lives.{live_none, live_more, live_past}
 
 -- ---- cells without slots
 
--- The words of cell c are cleared.
-abbrev pub cleared : ℕ → List ℕ → List ℕ
-cleared c w = set (set w (at_sums + c) 0) (at_lasts + c) 0
+-- The words of the cells are cleared.
+module _ (w x : List ℕ) (room : 8192 ≤ length w) (q : x ≡ replicate (length (take 2048 (drop 4096 w))) 0) where
+  pub cleared_none : NoSlots 1024 (put_mid 4096 2048 w x)
+  cleared_none c l = let z = zero_in w x 4096 2048 (omega arith) q in
+      (z (at_sums + c) (omega arith) (omega arith), z (at_lasts + c) (omega arith) (omega arith))
 
-pub none_more : (c : ℕ) (w : List ℕ) → c < 1024 → 8192 ≤ length w → NoSlots c w → NoSlots (c + 1) (cleared c w)
-none_more c w l r h x k = go (eq_test x c)
-  where
-    go : {t : Bool} → Test (x ≡ c) (x ≢ c) t
-        → (get_or (cleared c w) (at_sums + x) 0 ≡ 0) × (get_or (cleared c w) (at_lasts + x) 0 ≡ 0)
-    go (pass q) = rw q (
-      stored_first w (at_sums + c) 0 (at_lasts + c) 0 refl (omega arith) (omega arith),
-      stored_last w (at_sums + c) 0 (at_lasts + c) 0 refl (omega arith),
-    )
-    go (fail n) = (
-      elsewhere_both w _ _ _ _ refl (at_sums + x) (omega arith) (omega arith) ∙ (h x (omega arith)).0,
-      elsewhere_both w _ _ _ _ refl (at_lasts + x) (omega arith) (omega arith) ∙ (h x (omega arith)).1,
-    )
+  pub cleared_aside : Aside w (put_mid 4096 2048 w x)
+  cleared_aside j (inl l) = same_out w x 4096 2048 (omega arith) q j (inl l)
+  cleared_aside j (inr l) = same_out w x 4096 2048 (omega arith) q j (inr l)
 
-pub none_aside : (c : ℕ) (w : List ℕ) → c < 1024 → Aside w (cleared c w)
-none_aside c w l =
-    aside_both w _ _ _ _ refl (omega arith, omega arith) (omega arith, omega arith)
+  pub cleared_long : length (put_mid 4096 2048 w x) ≡ length w
+  cleared_long = as_long w x 4096 2048 (omega arith) q
 
 -- ---- the slots met so far
 
--- The live slots below i of w0 stand packed in the j slots of w1; those from i on are as they were. Nothing aside
--- changed since the second buffer was v.
-pub record Packed (e : ℕ) (w0 v w1 w2 : List ℕ) (i j : ℕ) : Type 0 where
-  pub at : i ≤ e
-  pub fewer : j ≤ i
-  pub count : j ≡ live i w0
-  pub changed : Changed j (graph_of i w0) w1 v w2
-  pub rest : (k : ℕ) → i ≤ k → k < e
-      → (get_or w1 k 0 ≡ get_or w0 k 0) × (get_or w1 (at_cells + k) 0 ≡ get_or w0 (at_cells + k) 0)
+-- The live slots of g below i stand packed in g'; those from i on are as they were.
+pub record Packed (g g' : WorkingGraph) (i : ℕ) : Type 0 where
+  pub at : i ≤ g.slots
+  pub fewer : g'.slots ≤ i
+  pub changes : Changes (live i g.w1.now) (graph_of i g.w1.now) g g'
+  pub rest : (k : ℕ) → i ≤ k → k < g.slots → (get_or g'.w1.now k 0 ≡ get_or g.w1.now k 0)
+      × (get_or g'.w1.now (at_cells + k) 0 ≡ get_or g.w1.now (at_cells + k) 0)
 
-pub pack_start : {e : ℕ} {w1 w2 v : List ℕ} → Holds e w1 w2 → NoSlots 1024 v → length v ≡ length w2
-    → Packed e w1 v w1 v 0 0
+pub pack_start : {g g' : WorkingGraph} → g'.slots ≡ 0 → g'.w1.now ≡ g.w1.now → Aside g.w2.now g'.w2.now
+    → SameBuffers g g' → Packed g g' 0
 unfolding total graph
-pack_start {e} {w1} {w2} {v} h n q = record {
+pack_start {g} {g'} z q a b = record {
   at = omega arith;
-  fewer = omega arith;
-  count = sym (live_none w1);
-  changed = record {
-    holds = holds_none w1 v h.room1 (omega (arith, h.room2)) n;
-    graph = refl;
-    aside = λ j l. refl;
-  };
-  rest = λ k a b. (refl, refl);
+  fewer = omega (arith, z);
+  changes = record { slots = z ∙ sym (live_none g.w1.now); graph = rw z refl; aside = a; buffers = b };
+  rest = λ k l m. rw q (refl, refl);
 }
 
-module _ {e : ℕ} {w0 w02 v w1 w2 : List ℕ} {i j : ℕ} (h0 : Holds e w0 w02) (p : Packed e w0 v w1 w2 i j) (l : i < e)
-  where
-    here : (get_or w1 i 0 ≡ get_or w0 i 0) × (get_or w1 (at_cells + i) 0 ≡ get_or w0 (at_cells + i) 0)
-    here = p.rest i (omega arith) l
+module _ {g g' : WorkingGraph} {i : ℕ} (p : Packed g g' i) (l : i < g.slots) where
+  here : (get_or g'.w1.now i 0 ≡ get_or g.w1.now i 0)
+      × (get_or g'.w1.now (at_cells + i) 0 ≡ get_or g.w1.now (at_cells + i) 0)
+  here = p.rest i (omega arith) l
 
-    pub pack_cells : (low_of w1 i < high_of w1 i) × (high_of w1 i < 1024)
-    pack_cells = rw here.1 (h0.slots.cells i l)
+  pub pack_cells : (low_of g'.w1.now i < high_of g'.w1.now i) × (high_of g'.w1.now i < 1024)
+  pack_cells = rw here.1 (g.holds.slots.cells i l)
 
-    none_yet : graph_of i w0 (low_of w0 i) (high_of w0 i) ≡ 0
-    unfolding graph
-    none_yet = h0.slots.once i l
+  none_yet : graph_of i g.w1.now (low_of g.w1.now i) (high_of g.w1.now i) ≡ 0
+  unfolding graph
+  none_yet = g.holds.slots.once i l
 
-    pub pack_absent : graph_of j w1 (low_of w1 i) (high_of w1 i) ≡ 0
-    pack_absent = rw (here.1, p.changed.graph) none_yet
+  pub pack_absent : graph_in g' (low_of g'.w1.now i) (high_of g'.w1.now i) ≡ 0
+  pack_absent = rw (here.1, p.changes.graph) none_yet
 
-    pub pack_dead : get_or w1 i 0 ≡ 0 → Packed e w0 v w1 w2 (i + 1) j
-    pack_dead z =
-        record {
-          at = omega arith;
-          fewer = omega (arith, p.fewer);
-          count = omega (arith, p.count, live_past i w0 (sym here.0 ∙ z));
-          changed = record {
-            holds = p.changed.holds;
-            graph = p.changed.graph ∙ rw add-one (sym (graph_gone (store w0 []) i (sym here.0 ∙ z)));
-            aside = p.changed.aside;
-          };
-          rest = λ k a b. p.rest k (omega arith) b;
-        }
-
-    pub pack_live : {w1' w2' : List ℕ} → 0 < get_or w1 i 0
-        → Changed (j + 1) (put (low_of w1 i) (high_of w1 i) (get_or w1 i 0) (graph_of j w1)) w1' w2 w2'
-        → Beyond j w1 w1'
-        → Packed e w0 v w1' w2' (i + 1) (j + 1)
-    pack_live {w1'} {w2'} pos h b =
-        record {
-          at = omega arith;
-          fewer = omega (arith, p.fewer);
-          count = omega (arith, p.count, live_more i w0 (omega (arith, here.0)));
-          changed = record {
-            holds = h.holds;
-            graph =
-                h.graph
-                ∙ rw (here.0, here.1, p.changed.graph, add-one)
-                (sym (graph_put (store w0 []) i none_yet));
-            aside = aside_on v w2 w2' p.changed.aside h.aside;
-          };
-          rest = λ k a m. (
-            b k (omega (arith, p.fewer)) (omega (arith, h0.slots.most)) ∙ (p.rest k (omega arith) m).0,
-            b (at_cells + k) (omega (arith, p.fewer, h0.slots.most)) (omega (arith, p.fewer))
-                ∙ (p.rest k (omega arith) m).1,
-          );
-        }
-
-pub pack_end : {e : ℕ} {w0 v w1 w2 : List ℕ} {i j : ℕ} → Packed e w0 v w1 w2 i j → e ≤ i → (w02 : List ℕ) → Aside w02 v
-    → (j ≡ live e w0) × (j ≤ e) × Changed j (graph_of e w0) w1 w02 w2
-pack_end {e} {w0} {v} {w1} {w2} {i} {j} p l w02 a =
-    let q : i ≡ e = omega (arith, p.at) in (
-      p.count ∙ ap (λ (k : ℕ). live k w0) q,
-      omega (arith, p.fewer),
+  pub pack_dead : get_or g'.w1.now i 0 ≡ 0 → Packed g g' (i + 1)
+  pack_dead z =
       record {
-        holds = p.changed.holds;
-        graph = p.changed.graph ∙ ap (λ (k : ℕ). graph_of k w0) q;
-        aside = aside_on w02 v w2 a p.changed.aside;
-      },
-    )
+        at = omega arith;
+        fewer = omega (arith, p.fewer);
+        changes = record {
+          slots = omega (arith, p.changes.slots, live_past i g.w1.now (sym here.0 ∙ z));
+          graph = p.changes.graph ∙ rw add-one (sym (graph_gone (store g.w1.now []) i (sym here.0 ∙ z)));
+          aside = p.changes.aside;
+          buffers = p.changes.buffers;
+        };
+        rest = λ k a b. p.rest k (omega arith) b;
+      }
+
+  pub pack_live : {g'' : WorkingGraph} {a b : ℕ} → a ≡ low_of g'.w1.now i → b ≡ high_of g'.w1.now i
+      → 0 < get_or g'.w1.now i 0
+      → Changes (g'.slots + 1) (put a b (get_or g'.w1.now i 0) (graph_in g')) g' g''
+      → Beyond g'.slots g'.w1.now g''.w1.now
+      → Packed g g'' (i + 1)
+  pack_live {g''} qa qb pos h b =
+      record {
+        at = omega arith;
+        fewer = omega (arith, p.fewer, h.slots);
+        changes = record {
+          slots = omega (arith, h.slots, p.changes.slots, live_more i g.w1.now (omega (arith, here.0)));
+          graph =
+              h.graph
+              ∙ rw (qa, qb, here.0, here.1, p.changes.graph, add-one)
+              (sym (graph_put (store g.w1.now []) i none_yet));
+          aside = aside_on g.w2.now g'.w2.now g''.w2.now p.changes.aside h.aside;
+          buffers = buffers_on p.changes.buffers h.buffers;
+        };
+        rest = λ k a m. (
+          b k (omega (arith, p.fewer)) (omega (arith, g.holds.slots.most)) ∙ (p.rest k (omega arith) m).0,
+          b (at_cells + k) (omega (arith, p.fewer, g.holds.slots.most)) (omega (arith, p.fewer))
+              ∙ (p.rest k (omega arith) m).1,
+        );
+      }
+
+pub pack_end : {g g' : WorkingGraph} {i : ℕ} → Packed g g' i → g.slots ≤ i
+    → Changes (live g.slots g.w1.now) (graph_in g) g g' × (g'.slots ≤ g.slots)
+pack_end {g} {g'} {i} p l =
+    let q : i ≡ g.slots = omega (arith, p.at) in
+    (subst (λ (k : ℕ). Changes (live k g.w1.now) (graph_of k g.w1.now) g g') q p.changes, omega (arith, p.fewer))

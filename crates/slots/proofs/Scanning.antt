@@ -1,6 +1,6 @@
 -- The slots of a cell, for callers that go over them: the last one (`last_slot`), the one before (`slot_before`), the
--- partner in one (`slot_sum`, `slot_joins`); a slot joins two cells in either order (`joins_turned`); a pair with
--- points has a slot (`joins_some`); what holds of the slots passed (`slots_on`). Assumes nothing.
+-- partner in one (`slot_joins`); a slot joins two cells in either order (`joins_turned`); a pair with points has a slot
+-- (`joins_some`); what holds of the slots passed (`slots_on`). Assumes nothing.
 use mathlib.Core.Path.{◌≡◌, sym, ◌∙◌}
 use mathlib.Core.Logic.{inl, inr, ◌≢◌}
 use mathlib.Core.Bool.{Bool, true, false, cond}
@@ -33,13 +33,6 @@ module _ {e : ℕ} {w1 w2 : List ℕ} (h : Holds e w1 w2) where
   module _ {c i : ℕ} (s : SlotOf e w1 c i) where
     has : Has (store w1 w2) i c
     has = holds (has_test (store w1 w2) i c) s.has
-
-    pub slot_sum : c ≤ low_of w1 i + high_of w1 i
-    slot_sum = go has
-      where
-        go : Has (store w1 w2) i c → c ≤ low_of w1 i + high_of w1 i
-        go (inl q) = omega arith
-        go (inr q) = omega arith
 
     pub slot_joins : {r : ℕ} → r ≡ low_of w1 i + high_of w1 i - c → Joins e w1 i c r × (r < 1024)
     slot_joins {r} q = (record { below = s.below; live = s.live; cells = same_is (both has) }, low has)

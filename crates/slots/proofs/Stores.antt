@@ -1,14 +1,14 @@
--- Words stored in a buffer. In order: words elsewhere, and the length, stay; words aside of the graph's; the keys of a
--- slot added or taken; a word that loses p. Assumes nothing.
-use mathlib.Core.Path.{◌≡◌, sym, ◌∙◌}
+-- Words stored in a buffer. In order: words elsewhere, and the length, stay; words aside of the graph's. Assumes
+-- nothing.
+use mathlib.Core.Path.{◌≡◌, ◌∙◌}
 use mathlib.Core.Logic.{◌⊎◌, inl, inr, ◌≢◌}
 use mathlib.Core.List.{List}
-use Prim.Native.Nat.{ℕ, ◌+◌, ◌-◌, ◌≤◌, ◌<◌}
+use Prim.Native.Nat.{ℕ, ◌+◌, ◌≤◌, ◌<◌}
 use native.Mathlib.Omega.{arith}
 use lib.ListN.{length, get_or, set, length-set}
-use lib.Seq.{get_or-set_same, get_or-set_other, set-get_or}
+use lib.Seq.{get_or-set_same, get_or-set_other}
 use Rattle.buffers.specs.Map.{trail_room, at_sums, at_names}
-use Rattle.slots.specs.Slots.{key, Added, Aside}
+use Rattle.slots.specs.Slots.{Added, Aside}
 
 -- ---- one store, two stores
 
@@ -54,35 +54,3 @@ aside_added {w} {w'} {i} {a} {b} ad lt lb j l =
 
 pub aside_on : (w w' w'' : List ℕ) → Aside w w' → Aside w' w'' → Aside w w''
 aside_on w w' w'' a b j l = b j l ∙ a j l
-
--- ---- the keys of a slot
-
-module _ (w : List ℕ) (i a b : ℕ) (room : 8192 ≤ length w) (lt : a < b) (lb : b < 1024) {k m : ℕ} (ek : k ≡ key b i)
-    (em : m ≡ key a i) {w₁ w₂ : List ℕ} where
-  pub added : w₁ ≡ set w (at_sums + a) (get_or w (at_sums + a) 0 + k)
-      → w₂ ≡ set w₁ (at_sums + b) (get_or w₁ (at_sums + b) 0 + m)
-      → Added w w₂ i a b
-  added p q = record {
-    low = omega (arith, elsewhere w₁ _ _ q (at_sums + a) (omega arith), stored w _ _ p (omega arith));
-    high =
-        omega (arith, stored w₁ _ _ q (omega (arith, as_long w _ _ p)), elsewhere w _ _ p (at_sums + b) (omega arith));
-    others = λ j n o. elsewhere w₁ _ _ q j o ∙ elsewhere w _ _ p j n;
-  }
-
-  pub taken : w₁ ≡ set w (at_sums + a) (get_or w (at_sums + a) 0 - k)
-      → w₂ ≡ set w₁ (at_sums + b) (get_or w₁ (at_sums + b) 0 - m)
-      → key b i ≤ get_or w (at_sums + a) 0 → key a i ≤ get_or w (at_sums + b) 0 → Added w₂ w i a b
-  taken p q ka kb = record {
-    low = omega (arith, elsewhere w₁ _ _ q (at_sums + a) (omega arith), stored w _ _ p (omega arith));
-    high =
-        omega (arith, stored w₁ _ _ q (omega (arith, as_long w _ _ p)), elsewhere w _ _ p (at_sums + b) (omega arith));
-    others = λ j n o. sym (elsewhere w₁ _ _ q j o ∙ elsewhere w _ _ p j n);
-  }
-
--- ---- a word that loses p
-
-pub set_none : (w : List ℕ) (i p : ℕ) → get_or w i 0 ≡ 0 → w ≡ set w i (get_or w i 0 - p)
-set_none w i p z = let q : get_or w i 0 - p ≡ get_or w i 0 = omega arith in rw (q, set-get_or w i 0)
-
-pub set_all : (w : List ℕ) (i p : ℕ) {w' : List ℕ} → w' ≡ set w i 0 → get_or w i 0 ≤ p → w' ≡ set w i (get_or w i 0 - p)
-set_all w i p e h = let q : get_or w i 0 - p ≡ 0 = omega arith in rw q e

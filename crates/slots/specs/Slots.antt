@@ -7,7 +7,7 @@
 -- A slot is named by its number + 1, and 0 is none, so that cleared buffers hold the empty graph. The link of a slot
 -- for one of its cells is the last slot before it that has the cell: a cell's slots are met in falling order.
 use Rattle.std.specs.Prelude.{◌≡◌, ◌⊎◌, ◌≢◌, true, cond, List, [], ℕ, zero, suc, ◌+◌, ◌*◌, ◌-◌, ◌/◌, ◌%◌, ◌≤◌, ◌<◌, eqb}
-use Rattle.std.specs.Prelude.{ltb, length, get_or}
+use Rattle.std.specs.Prelude.{ltb, length, get_or, Option, Some, None}
 use Rattle.buffers.specs.Map.{at_cells, trail_room, at_sums, at_lasts, at_names}
 use Rattle.matching.specs.Pairs.{Points, ι, same, touches}
 
@@ -81,6 +81,11 @@ low_of w1 i = get_or w1 (at_cells + i) 0 % 1024
 
 abbrev pub high_of : List ℕ → ℕ → ℕ
 high_of w1 i = get_or w1 (at_cells + i) 0 / 1024 % 1024
+
+-- What a slot is named by in a word.
+abbrev pub name_of : Option ℕ → ℕ
+name_of None = 0
+name_of (Some i) = suc i
 
 -- Slot i is live and joins x and y.
 pub record Joins (e : ℕ) (w1 : List ℕ) (i x y : ℕ) : Type 0 where

@@ -1,10 +1,12 @@
-// Inner: reads the graph that the buffers hold.
-ghost use Rattle.std.specs.Prelude.{◌≡◌, true, ◌+◌, ◌-◌, ◌/◌, ◌%◌, ◌<◌, length};
+// Inner: reads the working graph.
+ghost use Rattle.std.specs.Prelude.{◌≡◌, true, ◌/◌, ◌%◌, ◌<◌, length};
 ghost use Rattle.matching.specs.Graph.{partners};
 ghost use Rattle.matching.specs.Pairs.{touches};
-ghost use Rattle.slots.specs.Slots.{Holds, graph_of, low_of, high_of, Joins};
+ghost use Rattle.slots.specs.Slots.{low_of, high_of, name_of, Joins};
 ghost use Rattle.slots.specs.Found.{FindSlot, Next, Only, LastSlot, SlotOf};
+ghost use Rattle.slots.specs.Working.{graph_in};
 
+use crate::graph::WorkingGraph;
 use crate::words;
 use buffers::map;
 
@@ -15,12 +17,11 @@ pub struct Other {
     pub slot: usize,
 }
 
-// The number of pairs that c has.
-pub fn degree(w1: &[u64], w2: &[u64], e: usize, c: usize) -> u64
-    requires { (Holds e w1.now w2.now) × (c < 1024) }
-    ensures { result ≡ length (partners 1024 (graph_of e w1.now) c) }
-{
-    w2[map::SUMS + c] / words::KEY_ONE
+// The two cells of a slot.
+#[derive(Clone, Copy)]
+pub struct Cells {
+    pub low: usize,
+    pub high: usize,
 }
 
 // The cell and the slot of a key.
@@ -33,64 +34,89 @@ fn other_in(k: u64) -> Other
     }
 }
 
-// The only partner of a cell of degree one, with its slot.
-pub fn only(w1: &[u64], w2: &[u64], e: usize, c: usize) -> Other
-    requires { (Holds e w1.now w2.now) × (c < 1024) × (length (partners 1024 (graph_of e w1.now) c) ≡ 1) }
-    ensures { Only e w1.now c result }
-{
-    other_in(w2[map::SUMS + c])
-}
-
-// The other pair of a cell of degree two, of which slot i joins it to prev.
-pub fn step_on(w1: &[u64], w2: &[u64], e: usize, c: usize, prev: usize, i: usize) -> Other
-    requires { (Holds e w1.now w2.now) × (c < 1024) × Joins e w1.now i prev c
-        × (length (partners 1024 (graph_of e w1.now) c) ≡ 2) }
-    ensures { Next e w1.now c prev result }
-{
-    let t = w2[map::SUMS + c];
-    other_in(t - words::key_of(prev, i))
-}
-
-// The last slot of c, its number + 1, or 0 where there is none.
-pub fn last_slot(w1: &[u64], w2: &[u64], e: usize, c: usize) -> usize
-    requires { (Holds e w1.now w2.now) × (c < 1024) }
-    ensures { LastSlot w1.now c e result }
-{
-    w2[map::LASTS + c] as usize
-}
-
-// The last slot of c before slot i, which has c: its number + 1, or 0 where there is none.
-pub fn slot_before(w1: &[u64], w2: &[u64], e: usize, c: usize, i: usize) -> usize
-    requires { (Holds e w1.now w2.now) × (i < e) × (touches c (low_of w1.now i) (high_of w1.now i) ≡ true) }
-    ensures { LastSlot w1.now c i result }
-{
-    words::link(w1, i, c)
-}
-
-// The partner of c in slot i.
-pub fn partner(w1: &[u64], w2: &[u64], e: usize, c: usize, i: usize) -> usize
-    requires { (Holds e w1.now w2.now) × SlotOf e w1.now c i }
-    ensures { Joins e w1.now i c result × (result < 1024) }
-{
-    let x = w1[map::CELL_WORDS + i];
-    (x % map::CELL_FIELD) as usize + (x / map::CELL_FIELD % map::CELL_FIELD) as usize - c
-}
-
-// The live slot that joins u and v, its number + 1, or 0 where there is none.
-pub fn find(w1: &[u64], w2: &[u64], e: usize, u: usize, v: usize) -> usize
-    requires { (Holds e w1.now w2.now) × (u < 1024) × (v < 1024) }
-    ensures { FindSlot e w1.now u v result }
-{
-    let mut i = w2[map::LASTS + u] as usize;
-    while i != 0 {
-        let at = i - 1;
-        let x = w1[map::CELL_WORDS + at];
-        if w1[at] != 0 {
-            if (x % map::CELL_FIELD + x / map::CELL_FIELD % map::CELL_FIELD) as usize == u + v {
-                return i;
-            }
+impl WorkingGraph<'_> {
+    // The cells of slot i.
+    #[inline]
+    pub fn cells(&self, i: usize) -> Cells
+        requires { i < 4096 }
+        ensures { (result.low ≡ low_of self.now.w1.now i) × (result.high ≡ high_of self.now.w1.now i) }
+    {
+        let x = self.w1[map::CELL_WORDS + i];
+        Cells {
+            low: (x % map::CELL_FIELD) as usize,
+            high: (x / map::CELL_FIELD % map::CELL_FIELD) as usize,
         }
-        i = words::link(w1, at, u);
     }
-    0
+
+    // The number of pairs that c has.
+    #[inline]
+    pub fn degree(&self, c: usize) -> u64
+        requires { c < 1024 }
+        ensures { result ≡ length (partners 1024 (graph_in self.now) c) }
+    {
+        self.w2[map::SUMS + c] / words::KEY_ONE
+    }
+
+    // The only partner of a cell of degree one, with its slot.
+    #[inline]
+    pub fn only(&self, c: usize) -> Other
+        requires { (c < 1024) × (length (partners 1024 (graph_in self.now) c) ≡ 1) }
+        ensures { Only self.now.slots self.now.w1.now c result }
+    {
+        other_in(self.w2[map::SUMS + c])
+    }
+
+    // The other pair of a cell of degree two, of which slot i joins it to prev.
+    #[inline]
+    pub fn step_on(&self, c: usize, prev: usize, i: usize) -> Other
+        requires { (c < 1024) × Joins self.now.slots self.now.w1.now i prev c
+            × (length (partners 1024 (graph_in self.now) c) ≡ 2) }
+        ensures { Next self.now.slots self.now.w1.now c prev result }
+    {
+        other_in(self.w2[map::SUMS + c] - words::key_of(prev, i))
+    }
+
+    // The last slot of c.
+    #[inline]
+    pub fn last_slot(&self, c: usize) -> Option<usize>
+        requires { c < 1024 }
+        ensures { LastSlot self.now.w1.now c self.now.slots (name_of result) }
+    {
+        words::slot_of(self.w2[map::LASTS + c])
+    }
+
+    // The last slot of c before slot i, which has c.
+    #[inline]
+    pub fn slot_before(&self, c: usize, i: usize) -> Option<usize>
+        requires { (i < self.now.slots) × (touches c (low_of self.now.w1.now i) (high_of self.now.w1.now i) ≡ true) }
+        ensures { LastSlot self.now.w1.now c i (name_of result) }
+    {
+        words::link(self.w1, i, c)
+    }
+
+    // The partner of c in slot i.
+    #[inline]
+    pub fn partner(&self, c: usize, i: usize) -> usize
+        requires { SlotOf self.now.slots self.now.w1.now c i }
+        ensures { Joins self.now.slots self.now.w1.now i c result × (result < 1024) }
+    {
+        let cells = self.cells(i);
+        cells.low + cells.high - c
+    }
+
+    // The live slot that joins u and v.
+    pub fn find(&self, u: usize, v: usize) -> Option<usize>
+        requires { (u < 1024) × (v < 1024) }
+        ensures { FindSlot self.now.slots self.now.w1.now u v (name_of result) }
+    {
+        let mut next = self.last_slot(u);
+        while let Some(i) = next {
+            let cells = self.cells(i);
+            if self.w1[i] != 0 && cells.low + cells.high == u + v {
+                return Some(i);
+            }
+            next = self.slot_before(u, i);
+        }
+        None
+    }
 }

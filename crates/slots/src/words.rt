@@ -1,7 +1,7 @@
 // Inner: single words of the buffers.
-ghost use Rattle.std.specs.Prelude.{◌≡◌, ◌+◌, ◌*◌, ◌-◌, ◌<◌, ◌≤◌, length, get_or, set};
+ghost use Rattle.std.specs.Prelude.{◌≡◌, ◌+◌, ◌*◌, ◌<◌, ◌≤◌, length, get_or, set};
 ghost use Rattle.buffers.specs.Map.{at_cells, at_sums, at_lasts};
-ghost use Rattle.slots.specs.Slots.{key, link_of, Added};
+ghost use Rattle.slots.specs.Slots.{key, link_of, name_of, Added};
 
 use buffers::map;
 
@@ -34,34 +34,23 @@ pub fn cell_word(a: usize, b: usize, low_link: u64, high_link: u64) -> u64
     a as u64 + b as u64 * map::CELL_FIELD + low_link * LOW_LINK + high_link * HIGH_LINK
 }
 
+// The slot that a word names: its number and 1, or 0 for none.
+pub fn slot_of(name: u64) -> Option<usize>
+    ensures { name_of result ≡ name }
+{
+    (name as usize).checked_sub(1)
+}
+
 // The link of slot i for its cell c.
-pub fn link(w1: &[u64], i: usize, c: usize) -> usize
+pub fn link(w1: &[u64], i: usize, c: usize) -> Option<usize>
     requires { (8192 ≤ length w1.now) × (i < 4096) }
-    ensures { result ≡ link_of w1.now i c }
+    ensures { name_of result ≡ link_of w1.now i c }
 {
     let x = w1[map::CELL_WORDS + i];
     if (x % map::CELL_FIELD) as usize == c {
-        return (x / LOW_LINK % LINKS) as usize;
+        return slot_of(x / LOW_LINK % LINKS);
     }
-    (x / HIGH_LINK) as usize
-}
-
-// The key k goes into the sum of c.
-fn add_to(w2: &mut [u64], c: usize, k: u64)
-    requires { (c < 1024) × (8192 ≤ length w2.old) × (get_or w2.old (at_sums + c) 0 + k < 18446744073709551616) }
-    ensures { w2.new ≡ set w2.old (at_sums + c) (get_or w2.old (at_sums + c) 0 + k) }
-{
-    let t = w2[map::SUMS + c];
-    w2[map::SUMS + c] = t + k;
-}
-
-// The key k goes from the sum of c.
-fn take_from(w2: &mut [u64], c: usize, k: u64)
-    requires { (c < 1024) × (8192 ≤ length w2.old) × (k ≤ get_or w2.old (at_sums + c) 0) }
-    ensures { w2.new ≡ set w2.old (at_sums + c) (get_or w2.old (at_sums + c) 0 - k) }
-{
-    let t = w2[map::SUMS + c];
-    w2[map::SUMS + c] = t - k;
+    slot_of(x / HIGH_LINK)
 }
 
 // The keys of slot i go into the sums of its cells.
@@ -71,8 +60,8 @@ pub fn add_keys(w2: &mut [u64], i: usize, a: usize, b: usize)
         × (get_or w2.old (at_sums + b) 0 < 9223372036854775808) }
     ensures { Added w2.old w2.new i a b }
 {
-    add_to(w2, a, key_of(b, i));
-    add_to(w2, b, key_of(a, i));
+    w2[map::SUMS + a] += key_of(b, i);
+    w2[map::SUMS + b] += key_of(a, i);
 }
 
 // The keys of slot i go from the sums of its cells.
@@ -81,8 +70,8 @@ pub fn take_keys(w2: &mut [u64], i: usize, a: usize, b: usize)
         × (key b i ≤ get_or w2.old (at_sums + a) 0) × (key a i ≤ get_or w2.old (at_sums + b) 0) }
     ensures { Added w2.new w2.old i a b }
 {
-    take_from(w2, a, key_of(b, i));
-    take_from(w2, b, key_of(a, i));
+    w2[map::SUMS + a] -= key_of(b, i);
+    w2[map::SUMS + b] -= key_of(a, i);
 }
 
 // Slot i is the last of the cells a and b.

@@ -1,16 +1,21 @@
 -- The groups solved one by one. In order: words that stay while a group is solved (`Beside`, `laid_on`); what stands is
 -- laid out at the start (`out_links` to `out_there`); a group, gathered (`group_links`, `group_places`), joined
--- (`group_join`) and done (`group_solved`); cells that name no group are passed over (`groups_skip`); the groups solved
--- so far and their points (`Solving`), up to all of them. Assumes nothing.
+-- (`group_join`) and done (`group_solved`); cells that name no group are passed over (`groups_skip`); whether a cell's
+-- label names the cell (`names_own`); the groups solved so far and their points (`Solving`), up to all of them. Assumes
+-- nothing.
 use mathlib.Core.Path.{◌≡◌, refl, sym, ap, subst, ◌∙◌}
 use mathlib.Core.Logic.{◌⊎◌, inl, inr, ◌≢◌}
-use mathlib.Core.Bool.{Bool}
+use mathlib.Core.Bool.{Bool, true, false}
 use mathlib.Core.List.{List, []}
+use Rattle.std.specs.Prelude.{Option, None, Some}
 use Prim.Native.Nat.{ℕ, zero, suc, ◌+◌, ◌*◌, ◌-◌, ◌/◌, ◌%◌, ◌≤◌, ◌<◌}
 use native.Mathlib.Omega.{arith}
 use native.Mathlib.Numerals.{add-one}
+use lib.Dec.{eqb}
 use lib.ListN.{length, get_or, take}
 use lib.Seq.{get_or-take}
+use borrow.Author.Tests.{eq-eqb, eqb-true}
+use Rattle.std.specs.Option.{option_eq}
 use Rattle.buffers.specs.Map.{at_sets, at_starts, at_points, at_places, at_labels, link_field, at_table}
 use Rattle.matching.specs.Pairs.{Points, sum, hit}
 use Rattle.matching.specs.Pairing.{Once, seen}
@@ -27,17 +32,15 @@ use Rattle.partners.specs.Table.{tag, TrailKept, TableOnly}
 use Rattle.partners.specs.Entering.{Empty}
 use Rattle.sets.specs.Sets.{Forgotten}
 use Rattle.grouping.specs.Labels.{Labels, class, classes, Levelled}
-use Rattle.grouping.specs.Finding.{words_in, label_in, link_in, Leads, LinkThere, Linked}
+use Rattle.grouping.specs.Finding.{words_in, label_in, link_in, named, Leads, LinkThere, Linked}
 use Rattle.grouping.proofs.Classes.{class_cells, classes_next, classes_skip, labels_class, class_none, labels_largest}
 use Rattle.grouping.proofs.Classes.{labels_parts, class_closed}
 use Rattle.grouping.proofs.Links.{leads_kept, link_there, linked_class}
 use Rattle.gathering.specs.Gathered.{cell_in, Only, Starts, StartsThere, StartsIn, Blank, LinksThere, Gathers}
 use Rattle.gathering.specs.Gathered.{PlacesThere, PointsIn}
 use Rattle.solving.specs.Left.{SolvedIn}
-use Rattle.solving.specs.Joined.{JoinThere, Joins, Laid, GroupsThere, GroupSolved, GroupSolves, LabelsThere}
+use Rattle.solving.specs.Joined.{JoinThere, Joins, Laid, GroupsThere, GroupSolved, LabelsThere}
 use Rattle.solving.specs.Joined.{SetOut}
-use Rattle.solving.specs.declared.Solved.{Solved}
-use Rattle.solving.specs.declared.Solved.TheVariants.{Crowded, Points as Value}
 
 -- ---- words that stay
 
@@ -206,89 +209,87 @@ module _ {n : ℕ} {w : Points} {l : Labels} {d : ℕ} {w1 w2 : List ℕ} (p : G
     low = all_map (λ c q. omega (arith, q.0, p.laid.cells)) cs (class_cells n l d);
   }
 
-  module _ {w2a : List ℕ} {k : ℕ} (a : Gathers (class n l d) w2 w2a k) where
-    pub group_crowded : 12 < k → 12 < largest n w
-    group_crowded h =
-        omega (arith, a.crowded h, labels_class p.laid.graph v.sweeps l v.labelled d)
+  pub group_crowded : {w2a : List ℕ} → Gathers (class n l d) w2 w2a None → 12 < largest n w
+  group_crowded a = omega (arith, a.told, labels_class p.laid.graph v.sweeps l v.labelled d)
 
+  module _ {w2a : List ℕ} {k : ℕ} (a : Gathers (class n l d) w2 w2a (Some k)) where
     first_part : Beside w2 w2a
     first_part = beside_only (omega arith) (omega arith) a.only
 
-    module _ (few : k ≤ 12) where
-      pub group_places : PlacesThere w (class n l d) k w1 w2a
-      group_places = record {
-        room1 = p.laid.room1;
-        room2 = omega (arith, a.only.long, p.laid.room2);
-        few = few;
-        count = a.count few;
-        places = a.cells few;
-        rise = where_rises _ n;
-        n = n;
-        cells = p.laid.cells;
-        low = all_map (λ c q. q.0) cs (class_cells n l d);
-        closed = class_closed p.laid.graph v.sweeps l v.labelled v.level d;
-        small = p.laid.small;
-        most = p.laid.most;
-        rows = p.laid.rows;
-        starts = laid_starts p.laid first_part;
-        light = λ x m. rw (a.only.same (at_points + x) (inl (omega arith))) (p.laid.light x m);
-      }
+    pub group_places : PlacesThere w (class n l d) k w1 w2a
+    group_places = record {
+      room1 = p.laid.room1;
+      room2 = omega (arith, a.only.long, p.laid.room2);
+      few = a.told.0;
+      count = a.told.1;
+      places = a.told.2;
+      rise = where_rises _ n;
+      n = n;
+      cells = p.laid.cells;
+      low = all_map (λ c q. q.0) cs (class_cells n l d);
+      closed = class_closed p.laid.graph v.sweeps l v.labelled v.level d;
+      small = p.laid.small;
+      most = p.laid.most;
+      rows = p.laid.rows;
+      starts = laid_starts p.laid first_part;
+      light = λ x m. rw (a.only.same (at_points + x) (inl (omega arith))) (p.laid.light x m);
+    }
 
-      module _ {w2b : List ℕ} (b : PointsIn w (class n l d) k w2a w2b) where
-        second_part : Beside w2 w2b
-        second_part = beside_all first_part (beside_only (omega arith) (omega arith) b.only)
+    module _ {w2b : List ℕ} (b : PointsIn w (class n l d) k w2a w2b) where
+      second_part : Beside w2 w2b
+      second_part = beside_all first_part (beside_only (omega arith) (omega arith) b.only)
 
-        cell_still : (i : ℕ) → i < 12 → cell_in w2b i ≡ cell_in w2a i
-        cell_still i m = b.only.same (at_places + i) (inr (omega arith))
+      cell_still : (i : ℕ) → i < 12 → cell_in w2b i ≡ cell_in w2a i
+      cell_still i m = b.only.same (at_places + i) (inr (omega arith))
 
-        cell_low : (i : ℕ) → i < 12 → cell_in w2b i < 1024
-        cell_low i m = go (a.others i m)
-          where
-            go : (cell_in w2a i < 1024) ⊎ (cell_in w2a i ≡ cell_in w2 i) → cell_in w2b i < 1024
-            go (inl h) = omega (arith, cell_still i m)
-            go (inr h) = omega (arith, cell_still i m, p.laid.places i m)
+      cell_low : (i : ℕ) → i < 12 → cell_in w2b i < 1024
+      cell_low i m = go (a.others i m)
+        where
+          go : (cell_in w2a i < 1024) ⊎ (cell_in w2a i ≡ cell_in w2 i) → cell_in w2b i < 1024
+          go (inl h) = omega (arith, cell_still i m)
+          go (inr h) = omega (arith, cell_still i m, p.laid.places i m)
 
-        module _ (low : d < n) {w1a : List ℕ} (f : Forgotten k w1 w1a) where
-          pub group_join : JoinThere w (class n l d) (solve_each w (classes n l d)) k w1a w2b
-          group_join = record {
-            room1 = omega (arith, f.long, p.laid.room1);
-            room2 = omega (arith, second_part.long, p.laid.room2);
-            few = few;
-            count = a.count few;
-            rise = where_rises _ n;
-            cells = λ i m. cell_still i (omega arith) ∙ a.cells few i m;
-            places = cell_low;
-            points = b.points;
-            light = b.light;
-            none = f.none;
-            mates = λ c m.
-                b.only.same (at_table + c) (inr (omega arith)) ∙ a.only.same (at_table + c) (inr (omega arith))
-                ∙ p.mates c m;
-            once = rw (add-one d) at (some_once p.laid (d + 1) (omega arith));
+      module _ (low : d < n) {w1a : List ℕ} (f : Forgotten k w1 w1a) where
+        pub group_join : JoinThere w (class n l d) (solve_each w (classes n l d)) k w1a w2b
+        group_join = record {
+          room1 = omega (arith, f.long, p.laid.room1);
+          room2 = omega (arith, second_part.long, p.laid.room2);
+          few = a.told.0;
+          count = a.told.1;
+          rise = where_rises _ n;
+          cells = λ i m. cell_still i (omega (arith, a.told.0)) ∙ a.told.2 i m;
+          places = cell_low;
+          points = b.points;
+          light = b.light;
+          none = f.none;
+          mates = λ c m.
+              b.only.same (at_table + c) (inr (omega arith)) ∙ a.only.same (at_table + c) (inr (omega arith))
+              ∙ p.mates c m;
+          once = rw (add-one d) at (some_once p.laid (d + 1) (omega arith));
+        }
+
+        module _ {w1b w2c : List ℕ} {r : ℕ} (same1 : length w1b ≡ length w1a) (same2 : length w2c ≡ length w2b)
+            (j : Joins w (class n l d) (solve_each w (classes n l d)) w1a w1b w2b w2c r) where
+          pub group_solved : GroupSolved n w l d w1b w2 w2c r
+          group_solved = record {
+            there = record {
+              laid = laid_on p.laid (omega (arith, f.long)) (j.front ∙ f.front) third_part
+                  (λ i m. omega (arith, j.only (at_places + i) (omega arith), cell_low i m))
+                  (λ x m. omega (arith, j.only (at_points + x) (omega arith), b.light x m));
+              few = λ x m. go x m (eq_test x d);
+              mates = rw (add-one d) j.mates;
+            };
+            value = j.value;
+            light = j.light;
+            aside = beside_trail third_part;
           }
+            where
+              third_part : Beside w2 w2c
+              third_part = beside_all second_part (beside_table same2 j.only)
 
-          module _ {w1b w2c : List ℕ} {r : ℕ} (same1 : length w1b ≡ length w1a) (same2 : length w2c ≡ length w2b)
-              (j : Joins w (class n l d) (solve_each w (classes n l d)) w1a w1b w2b w2c r) where
-            pub group_solved : GroupSolved n w l d w1b w2 w2c r
-            group_solved = record {
-              there = record {
-                laid = laid_on p.laid (omega (arith, f.long)) (j.front ∙ f.front) third_part
-                    (λ i m. omega (arith, j.only (at_places + i) (omega arith), cell_low i m))
-                    (λ x m. omega (arith, j.only (at_points + x) (omega arith), b.light x m));
-                few = λ x m. go x m (eq_test x d);
-                mates = rw (add-one d) j.mates;
-              };
-              value = j.value;
-              light = j.light;
-              aside = beside_trail third_part;
-            }
-              where
-                third_part : Beside w2 w2c
-                third_part = beside_all second_part (beside_table same2 j.only)
-
-                go : (x : ℕ) → x < d + 1 → {t : Bool} → Test (x ≡ d) (x ≢ d) t → length (class n l x) ≤ 12
-                go x m (pass e) = omega (arith, ap (λ (y : ℕ). length (class n l y)) e, a.count few)
-                go x m (fail e) = p.few x (omega arith)
+              go : (x : ℕ) → x < d + 1 → {t : Bool} → Test (x ≡ d) (x ≢ d) t → length (class n l x) ≤ 12
+              go x m (pass e) = omega (arith, ap (λ (y : ℕ). length (class n l y)) e, a.told.1)
+              go x m (fail e) = p.few x (omega arith)
 
   -- a cell that names no group, since its label is another's or none
   groups_skip : d < n → label_in w2 d ≢ d + 1 → GroupsThere n w l (d + 1) w1 w2
@@ -310,6 +311,20 @@ module _ {n : ℕ} {w : Points} {l : Labels} {d : ℕ} {w1 w2 : List ℕ} (p : G
       go x m (pass e) = omega (arith, ap (λ (y : ℕ). length (class n l y)) e, ap length empty)
       go x m (fail e) = p.few x (omega arith)
 
+-- ---- whether a cell's label names the cell
+
+pub names_own : (x d : ℕ) {f : Option ℕ} → f ≡ named x → true ≡ option_eq eqb f (Some d) → x ≡ d + 1
+names_own x d e t = go x (rw e at t)
+  where
+    go : (y : ℕ) → true ≡ option_eq eqb (named y) (Some d) → y ≡ d + 1
+    go zero q = cc
+    go (suc c) q = omega (arith, eqb-true c d (sym q))
+
+pub names_other : (x d : ℕ) {f : Option ℕ} → f ≡ named x → false ≡ option_eq eqb f (Some d) → x ≢ d + 1
+names_other x d e t q =
+    let s : x ≡ suc d = omega arith in
+    let u = rw (e, s, eq-eqb d d refl) at t in cc
+
 -- ---- all groups
 
 -- Since the second buffer was w2: the groups whose first cells are below d are solved, with so many points.
@@ -320,35 +335,19 @@ pub record Solving (n : ℕ) (w : Points) (l : Labels) (d : ℕ) (w2 w1' w2' : L
   pub light : v ≤ d * (12 * points_room)
   pub aside : TrailKept w2 w2'
 
-pub solving_none : {n : ℕ} {w : Points} {l : Labels} {w1 w2 : List ℕ} → GroupsThere n w l 0 w1 w2
-    → Solving n w l 0 w2 w1 w2 0
-solving_none p = record {
-  within = omega arith;
-  there = p;
-  value = refl;
-  light = omega arith;
-  aside = λ j m. refl;
-}
-
 module _ {n : ℕ} {w : Points} {l : Labels} {d v : ℕ} {w2 w1' w2' : List ℕ} (p : Solving n w l d w2 w1' w2' v) where
   pub solving_first : d < n → label_in w2' d ≡ d + 1 → l d ≡ suc d
   solving_first low e = omega (arith, p.there.laid.labels d low)
 
-  pub solving_crowded : (w1'' w2'' : List ℕ) {r : Solved} → r ≡ Crowded → GroupSolves n w l d w1'' w2' w2'' r
-      → 12 < largest n w
-  solving_crowded w1'' w2'' e s = subst (GroupSolves n w l d w1'' w2' w2'') e s
-
-  pub solving_group : {w1'' w2'' : List ℕ} {r : Solved} {x : ℕ} → r ≡ Value x → d < n
-      → GroupSolves n w l d w1'' w2' w2'' r → Solving n w l (d + 1) w2 w1'' w2'' (v + x)
-  solving_group {w1''} {w2''} e low s =
-      let g = subst (GroupSolves n w l d w1'' w2' w2'') e s in
-      record {
-        within = omega arith;
-        there = g.there;
-        value = omega (arith, p.value, g.value, classes_next n w l d w);
-        light = omega (arith, p.light, g.light);
-        aside = λ j m. g.aside j m ∙ p.aside j m;
-      }
+  pub solving_group : {w1'' w2'' : List ℕ} {x : ℕ} → d < n → GroupSolved n w l d w1'' w2' w2'' x
+      → Solving n w l (d + 1) w2 w1'' w2'' (v + x)
+  solving_group low g = record {
+    within = omega arith;
+    there = g.there;
+    value = omega (arith, p.value, g.value, classes_next n w l d w);
+    light = omega (arith, p.light, g.light);
+    aside = λ j m. g.aside j m ∙ p.aside j m;
+  }
 
   pub solving_skip : d < n → label_in w2' d ≢ d + 1 → Solving n w l (d + 1) w2 w1' w2' v
   solving_skip low other =

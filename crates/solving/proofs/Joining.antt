@@ -2,9 +2,9 @@
 -- while the pairs are taken out of the set one by one (`Joining`): at the start, where the lowest place has no partner
 -- or has one, at the end. Assumes nothing.
 use mathlib.Core.Path.{◌≡◌, refl, sym, ap, ap₂, subst, ◌∙◌}
-use mathlib.Core.Logic.{◌≢◌}
 use mathlib.Core.List.{List, ◌∷◌, ◌++◌, map}
-use Prim.Native.Nat.{ℕ, suc, ◌+◌, ◌*◌, ◌-◌, ◌^◌, ◌≤◌, ◌<◌}
+use Rattle.std.specs.Prelude.{Option, None, Some}
+use Prim.Native.Nat.{ℕ, ◌+◌, ◌*◌, ◌-◌, ◌^◌, ◌≤◌, ◌<◌}
 use native.Mathlib.Omega.{arith}
 use lib.ListN.{length, get_or, take, drop, set, length-set, length-drop}
 use lib.Seq.{length-take-le, get_or-take, get_or-drop}
@@ -110,11 +110,11 @@ module _ {w : Points} {cs : List ℕ} {m : List Pair} {k : ℕ} {w1 w2 : List �
     still : take at_sets w1'' ≡ take at_sets w1
     still = q.front ∙ h.front
 
-    leads : {i : ℕ} → t.partner ≡ i
+    leads : {i : Option ℕ} → t.partner ≡ i
         → ahead left ≡ map (both (cell_in w2)) (with_partner t.low i (heaviest ws t.rest))
     leads e = ap (map (both (cell_in w2))) (g.leads ∙ ap (λ i. with_partner t.low i (heaviest ws t.rest)) e)
 
-    pub joining_alone : t.partner ≡ 0 → Joining w1'' w2' t.rest
+    pub joining_alone : t.partner ≡ None → Joining w1'' w2' t.rest
     joining_alone e = record {
       ready = next;
       front = still;
@@ -129,42 +129,36 @@ module _ {w : Points} {cs : List ℕ} {m : List Pair} {k : ℕ} {w1 w2 : List �
     cell_now : (i : ℕ) → i < 12 → cell_in w2' i ≡ cell_in w2 i
     cell_now i l = h.only (at_places + i) (omega arith)
 
-    pub joining_cells : t.partner ≢ 0
-        → (cell_in w2' t.low < 1024) × (cell_in w2' (t.partner - 1) < 1024)
-    joining_cells n = (
-      omega (arith, cell_now t.low g.low, p.places t.low g.low),
-      omega (
-        arith,
-        cell_now (t.partner - 1) (omega (arith, g.partner)),
-        p.places (t.partner - 1) (omega (arith, g.partner)),
-      ),
-    )
+    module _ {x : ℕ} (e : t.partner ≡ Some x) where
+      pub joining_within : x < 12
+      joining_within = rw e at g.partner
 
-    module _ (n : t.partner ≢ 0) where
       abbrev a : ℕ
       a = cell_in w2 t.low
 
       abbrev b : ℕ
-      b = cell_in w2 (t.partner - 1)
+      b = cell_in w2 x
 
       now_a : cell_in w2' t.low ≡ a
       now_a = cell_now t.low g.low
 
-      now_b : cell_in w2' (t.partner - 1) ≡ b
-      now_b = cell_now (t.partner - 1) (omega (arith, g.partner))
+      now_b : cell_in w2' x ≡ b
+      now_b = cell_now x joining_within
+
+      pub joining_cells : (cell_in w2' t.low < 1024) × (cell_in w2' x < 1024)
+      joining_cells = (omega (arith, now_a, p.places t.low g.low), omega (arith, now_b, p.places x joining_within))
 
       head : ahead left ≡ (a, b) ∷ ahead t.rest
-      head = leads {i = suc (t.partner - 1)} (omega arith)
+      head = leads e
 
       sums : (f : Points) → sum f all ≡ f a b + sum f h.done + sum f (ahead t.rest)
       sums f = omega (arith, h.sums f, ap (sum f) head)
 
-      pub joining_pair : {v : List ℕ} → v ≡ joined (cell_in w2' t.low) (cell_in w2' (t.partner - 1)) 0 w2'
-          → Joining w1'' v t.rest
-      joining_pair {v} e = subst (λ u. Joining w1'' u t.rest) (sym at) after
+      pub joining_pair : {v : List ℕ} → v ≡ joined (cell_in w2' t.low) (cell_in w2' x) 0 w2' → Joining w1'' v t.rest
+      joining_pair {v} o = subst (λ u. Joining w1'' u t.rest) (sym at) after
         where
           at : v ≡ joined a b 0 w2'
-          at = e ∙ ap₂ (λ x y. joined x y 0 w2') now_a now_b
+          at = o ∙ ap₂ (λ x y. joined x y 0 w2') now_a now_b
 
           after : Joining w1'' (joined a b 0 w2') t.rest
           after = record {
@@ -176,7 +170,7 @@ module _ {w : Points} {cs : List ℕ} {m : List Pair} {k : ℕ} {w1 w2 : List �
             done = (a, b) ∷ h.done;
             sums = sums;
             mates = mates_join w2' all_short h.done a b (omega (arith, h.long, p.room2))
-                (p.places t.low g.low) (p.places (t.partner - 1) (omega (arith, g.partner))) h.mates 0
+                (p.places t.low g.low) (p.places x joining_within) h.mates 0
                 (refl, refl) (λ c. omega (arith, sums (hit c), p.once c));
           }
 

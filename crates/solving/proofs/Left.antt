@@ -1,9 +1,10 @@
 -- What is left in the slots, solved. In order: its pairs as rows and cells (`left_rows`), on which its labels are found
 -- (`left_level`); some group is too large (`left_crowded`), or no pair has two labels (`left_labels`) and all groups
 -- are solved (`left_solved`). Assumes nothing.
-use mathlib.Core.Path.{◌≡◌, refl, ◌∙◌}
+use mathlib.Core.Path.{◌≡◌, refl, subst, ◌∙◌}
 use mathlib.Core.Bool.{Bool, true, false, not}
 use mathlib.Core.List.{List}
+use Rattle.std.specs.Prelude.{Option, None, Some}
 use Prim.Native.Nat.{ℕ, ◌+◌, ◌/◌, ◌≤◌, ◌<◌}
 use native.Mathlib.Omega.{arith}
 use lib.ListN.{length, get_or}
@@ -20,8 +21,12 @@ use Rattle.running.proofs.Inserting.{all_place}
 use Rattle.grouping.specs.Finding.{words_in, OwnIn, LevelThere, Levels}
 use Rattle.solving.specs.Left.{LeftThere, Solves}
 use Rattle.solving.specs.Joined.{LabelsThere, SetOut}
-use Rattle.solving.specs.declared.Solved.{Solved}
-use Rattle.solving.specs.declared.Solved.TheVariants.{Crowded, Points as Value}
+
+-- the rows of the pairs, where the slots stayed
+pub rows_kept : (e : ℕ) {r : ℕ} {w w' v : List ℕ} → w' ≡ w → (r ≤ 4096) × RowsOf (short_list 1024 (graph_of e w')) r v
+    → (r ≤ 4096) × RowsOf (short_list 1024 (graph_of e w)) r v
+rows_kept e {r} {v = v} q p =
+    subst (λ (x : List ℕ). (r ≤ 4096) × RowsOf (short_list 1024 (graph_of e x)) r v) q p
 
 module _ {n e : ℕ} {w1 w2 w1a w2a : List ℕ} {r : ℕ} (p : LeftThere n e w1 w2) (a : OwnIn n (graph_of e w1) w2 w2a)
     (same : length w1a ≡ length w1) (f : (r ≤ 4096) × RowsOf (short_list 1024 (graph_of e w1)) r w1a) where
@@ -70,10 +75,10 @@ module _ {n e : ℕ} {w1 w2 w1a w2a : List ℕ} {r : ℕ} (p : LeftThere n e w1 
       labels = refl;
     }
 
-    pub left_solved : {w2c : List ℕ} (w2d : List ℕ) (x : Solved) → SetOut n (graph_of e w1) (words_in w2b) w1a w2b w2c
+    pub left_solved : {w2c : List ℕ} (w2d : List ℕ) (x : Option ℕ) → SetOut n (graph_of e w1) (words_in w2b) w1a w2b w2c
         → Solves n (graph_of e w1) w2c w2d x → Solves n (graph_of e w1) w2 w2d x
-    left_solved w2d Crowded o s = s
-    left_solved w2d (Value v) o s = record {
+    left_solved w2d None o s = s
+    left_solved w2d (Some v) o s = record {
       few = s.few;
       value = s.value;
       mates = s.mates;

@@ -1,6 +1,7 @@
 -- The groups solved one by one and joined in the table of partners. Only inner contracts cite this; laws:
 -- proofs/Joining and proofs/Groups.
-use Rattle.std.specs.Prelude.{◌≡◌, List, ◌++◌, ℕ, suc, ◌+◌, ◌*◌, ◌^◌, ◌≤◌, ◌<◌, length, get_or, take}
+use Rattle.std.specs.Prelude.{◌≡◌, List, ◌++◌, Option, ℕ, suc, ◌+◌, ◌*◌, ◌^◌, ◌≤◌, ◌<◌, length, get_or, take}
+use Rattle.std.specs.Option.{MatchOption}
 use Rattle.buffers.specs.Map.{at_sets, at_points}
 use Rattle.matching.specs.Lists.{Ascends}
 use Rattle.matching.specs.Pairs.{Pair, Points, sum}
@@ -15,8 +16,6 @@ use Rattle.grouping.specs.Labels.{Labels, class, classes, Levelled}
 use Rattle.grouping.specs.Finding.{words_in, label_in, link_in, Leads}
 use Rattle.gathering.specs.Gathered.{cell_in, points_in, Starts}
 use Rattle.partners.specs.Table.{Mates, TrailKept, TableOnly}
-use Rattle.solving.specs.declared.Solved.{Solved}
-use Rattle.solving.specs.declared.Solved.TheVariants.{Crowded, Points as Value}
 
 -- The cells cs stand at the first k places with the points between them, nothing is known of their sets, and the pairs
 -- m stand in the table, none of which has one of the cells.
@@ -65,16 +64,15 @@ pub record GroupsThere (n : ℕ) (w : Points) (l : Labels) (d : ℕ) (w1 w2 : Li
   pub few : (x : ℕ) → x < d → length (class n l x) ≤ 12
   pub mates : Mates w2 all_short (solve_each w (classes n l d))
 
--- The group at d has more than 12 cells; or it is solved and joined too.
+-- The group at d is solved and joined too; or some group has more than 12 cells.
 pub record GroupSolved (n : ℕ) (w : Points) (l : Labels) (d : ℕ) (w1' w2 w2' : List ℕ) (v : ℕ) : Type 0 where
   pub there : GroupsThere n w l (d + 1) w1' w2'
   pub value : v ≡ sum w (solve (length (class n l d)) w (class n l d))
   pub light : v ≤ 12 * points_room
   pub aside : TrailKept w2 w2'
 
-abbrev pub GroupSolves : (n : ℕ) (w : Points) (l : Labels) (d : ℕ) (w1' w2 w2' : List ℕ) → Solved → Type 0
-GroupSolves n w l d w1' w2 w2' Crowded = 12 < largest n w
-GroupSolves n w l d w1' w2 w2' (Value v) = GroupSolved n w l d w1' w2 w2' v
+abbrev pub GroupSolves : (n : ℕ) (w : Points) (l : Labels) (d : ℕ) (w1' w2 w2' : List ℕ) → Option ℕ → Type 0
+GroupSolves n w l d w1' w2 w2' r = MatchOption r (12 < largest n w) (GroupSolved n w l d w1' w2 w2')
 
 -- The labels of a graph of n cells, whose pairs stand as r rows and cells.
 pub record LabelsThere (n : ℕ) (w : Points) (l : Labels) (r : ℕ) (w1 w2 : List ℕ) : Type 0 where

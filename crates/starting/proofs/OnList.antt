@@ -1,5 +1,5 @@
 -- The course of steps on an accepted list. In order: without more steps it is what the slip's names name
--- (`course_replay`); the cells of steps that stand; what has passed the list's check (`list_there`); an accepted list
+-- (`course_replay`); the cells of steps that stand; an accepted list
 -- is a graph of its cells (`list_graph`) whose points, with what is carried, have 44 bits after any steps that are
 -- allowed (`left_small`); so the loop may run on it (`run_asked`), and what the steps leave is a graph (`left_graph`)
 -- that may be written (`left_there`); they are at most 1,024 (`steps_few`), with cells of 10 bits (`steps_below`).
@@ -26,20 +26,15 @@ use Rattle.matching.proofs.Fits.{Fits, Stands}
 use Rattle.matching.proofs.Exact.{step_graph}
 use Rattle.matching.proofs.Reduce.{replay_fits}
 use Rattle.matching.proofs.Demand.{slip_graph, left_bound, total_fits, no_gain_no_loss}
-use Rattle.cellfile.specs.Files.{slip as slip_layout, cells_of, count_of, in_view}
-use Rattle.cellfile.specs.Reads.{RecordThere}
+use Rattle.cellfile.specs.Files.{cells_of, in_view}
 use Rattle.checks.specs.Refusals.{first, lists, list_rows}
 use Rattle.cellfile.proofs.Walk.{entries_count}
 use Rattle.cellfile.proofs.Lists.{view_all, view_small}
-use Rattle.cellfile.specs.Answers.{answer}
-use Rattle.checks.specs.Calls.{call_rows}
-use Rattle.checks.specs.Answering.{Enough}
-use Rattle.checks.proofs.Accepted.{list_fits, call_accepted, accepted_list}
+use Rattle.checks.proofs.Accepted.{list_fits, accepted_list}
 use Rattle.slots.specs.Slots.{graph_of}
 use Rattle.starting.specs.Steps.{graph_in}
 use Rattle.running.specs.Course.{course}
 use Rattle.running.specs.Running.{Asked, After}
-use Rattle.starting.specs.Starting.{ListThere, Loaded}
 use Rattle.running.specs.Pairs.{PairsLeft}
 use Rattle.running.proofs.Listing.{holds_pairs}
 use Rattle.matching.proofs.Behind.{behind}
@@ -86,15 +81,6 @@ stands_below {w = w} l g (s ∷ ss) f =
 
 -- ---- an accepted list
 
--- From the answer of the call's check.
-pub list_there : (few : Bool) {list : List ℕ} {n m : ℕ} {w1 w2 : List ℕ}
-    → (0, n ∷ m ∷ []) ≡ answer (first (call_rows few list)) (cells_of list ∷ count_of list ∷ [])
-    → Enough few w1 w2 → ListThere list m w1 w2 × (n ≡ cells_of list)
-list_there few {list} e enough =
-    let a = call_accepted few list e in
-    let r = enough a.0 in
-    (record { accepted = a.1; count = a.3; room1 = r.0; room2 = r.1 }, a.2)
-
 module _ (list : List ℕ) (h : first (list_rows lists list) ≡ 0) where
   pub list_graph : Graph (cells_of list) (graph_in list)
   list_graph = listed_graph (cells_of list) (in_view list) (accepted_list list h).1
@@ -111,14 +97,13 @@ module _ (list : List ℕ) (h : first (list_rows lists list) ≡ 0) where
         total_fits 20 (in_view list) (view_small list) list_few,
       )
 
-  pub run_asked : {n e m more : ℕ} {slip w1 w2 : List ℕ} → n ≡ cells_of list → Loaded list e w1 w2 → m < 8192
-      → ((k : ℕ) → k < m → RecordThere slip_layout slip k) → more ≤ 1024 → Asked n (graph_of e w1) m more slip
-  run_asked en l c r f = record {
+  pub run_asked : {n more : ℕ} {w : Points} {rs : List (Rule × ℕ)} → n ≡ cells_of list → w ≡ graph_in list
+      → length rs < 8192 → more ≤ 1024 → Asked n w rs more
+  run_asked en l c f = record {
     cells = omega (arith, en, (accepted_list list h).0);
-    graph = rw (en, l.graph) list_graph;
-    small = rw (en, l.graph) left_small;
+    graph = rw (en, l) list_graph;
+    small = rw (en, l) left_small;
     count = c;
-    named = r;
     few = f;
   }
 

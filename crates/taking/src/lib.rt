@@ -1,180 +1,140 @@
 // Inner, for the reduction: takes a step that was found. See specs/Applying, and specs/Parts for its parts.
 #![tactic(auto)]
 
-ghost use Rattle.std.specs.Prelude.{◌≡◌, ◌+◌, ◌≤◌};
-ghost use Rattle.std.proofs.Math.Option.{some};
-ghost use Rattle.matching.specs.Steps.{Step, leaf, ring, chain};
-ghost use Rattle.slots.specs.Slots.{Holds, graph_of, Changed, live};
-ghost use Rattle.finding.specs.Rows.{inner_at};
-ghost use Rattle.trail.specs.Taking.{RowThere};
+ghost use Rattle.std.specs.Prelude.{◌≡◌, ◌+◌, ◌-◌, ◌≤◌, take, drop};
+ghost use Rattle.buffers.specs.Map.{trail_room};
+ghost use Rattle.matching.specs.Steps.{leaf, ring, chain};
+ghost use Rattle.slots.specs.Slots.{live};
+ghost use Rattle.slots.specs.Working.{graph_in, Changes};
 ghost use Rattle.finding.specs.Finding.{step_of};
+ghost use Rattle.trail.specs.Taking.{inner_of, RowThere};
 ghost use Rattle.taking.specs.Applying.{StepThere, StepTaken};
-ghost use Rattle.taking.specs.Parts.{RowGone, LeafThere, RingThere, ChainThere};
+ghost use Rattle.taking.specs.Parts.{entered, RowGone, LeafThere, RingThere, ChainThere};
 
-use cellfile::format::{CHAIN, LEAF, RING};
-use finding;
-use finding::Found;
-use putting;
-use slots::change;
-use trail;
+use finding::{Found, Step, Stop};
+use putting::Ends;
+use rows::Row;
+use slots::graph::WorkingGraph;
 use trail::words;
 
-// After a step: the slots in use, the words on the trail, and what the step carries.
+// After a step: the words on the trail, and what the step carries.
 #[derive(Clone, Copy)]
 pub struct Taken {
-    pub slots: usize,
     pub trail: usize,
     pub carried: u64,
 }
 
 const SLOTS: usize = 4096;
 
-// Three slots are to be free: where fewer are, gone slots are dropped. The slots in use.
-fn room(w1: &mut [u64], w2: &mut [u64], e: usize) -> usize
-    requires { (Holds e w1.old w2.old) × (live e w1.old + 3 ≤ 4096) }
-    ensures { (result ≤ 4093) × Changed result (graph_of e w1.old)
-        w1.new w2.old w2.new }
+// Three slots are to be free: where fewer are, gone slots are dropped.
+fn room(graph: &mut WorkingGraph)
+    requires { live graph.old.slots graph.old.w1.now + 3 ≤ 4096 }
+    ensures { Changes graph.new.slots (graph_in graph.old) graph.old graph.new × (graph.new.slots ≤ 4093) }
 {
-    if e > SLOTS - 3 {
-        return change::pack(w1, w2, e);
+    if graph.slots > SLOTS - 3 {
+        graph.pack();
     }
-    e
 }
 
-// After a row went: the slots in use, and how many pairs the row had.
-#[derive(Clone, Copy)]
-struct Cleared {
-    slots: usize,
-    pairs: usize,
-}
-
-// The row that leaves u at f by slot i goes, to its end v, as `take_row` takes it; then three slots are free.
-fn clear_row(
-    w1: &mut [u64],
-    w2: &mut [u64],
-    e: usize,
-    t: usize,
-    u: usize,
-    f: usize,
-    i: usize,
-    v: usize,
-) -> Cleared
-    requires { RowThere e w1.old w2.old t u f i v }
-    ensures { RowGone e w1.old w2.old w1.new w2.new t u f v result }
+// The row that is entered at a stop goes, to its end v, as `take_row` takes it; then three slots are free. The number
+// of its pairs.
+fn clear_row(graph: &mut WorkingGraph, t: usize, from: Stop, v: usize) -> usize
+    requires { RowThere graph.old t from v }
+    ensures { RowGone graph.old graph.new t from v result }
 {
-    let pairs = trail::take_row(w1, w2, e, t, u, f, i, v);
-    let slots = room(w1, w2, e);
-    Cleared { slots, pairs }
+    let pairs = trail::take_row(graph, t, from, v);
+    room(graph);
+    pairs
+}
+
+// The row whose words stand on the trail from place t to before `end`.
+fn row_on_trail<'a>(graph: &'a WorkingGraph<'_>, t: usize, end: usize) -> Row<'a>
+    requires { (t + 3 ≤ end) × (end ≤ t + 1024) × (end ≤ trail_room) }
+    ensures { result.words.now ≡ take (end - t) (drop t graph.now.w2.now) }
+{
+    Row {
+        words: &graph.w2[t..end],
+    }
 }
 
 // The leaf step at v, whose only pair is that of slot i, with u.
-fn take_leaf(
-    w1: &mut [u64],
-    w2: &mut [u64],
-    e: usize,
-    t: usize,
-    v: usize,
-    u: usize,
-    i: usize,
-) -> Taken
-    requires { LeafThere e w1.old w2.old t v u i }
-    ensures { StepTaken e w1.old w2.old w1.new w2.new t
-        (leaf u v) result }
+fn take_leaf(graph: &mut WorkingGraph, t: usize, v: usize, u: usize, i: usize) -> Taken
+    requires { LeafThere graph.old t v u i }
+    ensures { StepTaken graph.old graph.new t (leaf u v) result }
 {
-    let carried = change::leaf(w1, w2, e, v, u, i);
-    w2[t] = words::closing_word(LEAF, u, v, 0, 0, 0);
+    let carried = graph.leaf(v, u, i);
+    graph.set_word(t, words::closing_word(Step::Leaf { v, u }, 0, false));
     Taken {
-        slots: e,
         trail: t + 1,
         carried,
     }
 }
 
-// The ring step at z, of the ring that leaves u at f by slot i.
-fn take_ring(
-    w1: &mut [u64],
-    w2: &mut [u64],
-    e: usize,
-    t: usize,
-    u: usize,
-    z: usize,
-    f: usize,
-    i: usize,
-) -> Taken
-    requires { RingThere e w1.old w2.old t u z f i }
-    ensures { StepTaken e w1.old w2.old w1.new w2.new t
-        (ring u z (inner_at e w1.old u f)) result }
+// The ring step at z, of the ring that is entered at a stop.
+fn take_ring(graph: &mut WorkingGraph, t: usize, z: usize, from: Stop) -> Taken
+    requires { RingThere graph.old t z from }
+    ensures { StepTaken graph.old graph.new t (ring from.last z (inner_of graph.old from)) result }
 {
-    let cleared = clear_row(w1, w2, e, t, u, f, i, u);
-    let pairs = cleared.pairs;
+    let u = from.last;
+    let pairs = clear_row(graph, t, from, u);
     let end = t + pairs;
-    let points = rows::ring_points(&w2[t..end]);
-    let slots = putting::put_pair(w1, w2, cleared.slots, u, z, points.whole - points.less_u);
-    w2[end] = words::closing_word(RING, u, 0, z, pairs, 0);
+    let points = row_on_trail(graph, t, end).ring_points();
+    putting::put_pair(graph, u, z, points.whole - points.less_u);
+    graph.set_word(end, words::closing_word(Step::Ring { u, z }, pairs, false));
     Taken {
-        slots,
         trail: end + 1,
         carried: points.less_u,
     }
 }
 
-// The chain step at z, of the chain that leaves u at f by slot i and ends at v.
-fn take_chain(
-    w1: &mut [u64],
-    w2: &mut [u64],
-    e: usize,
-    t: usize,
-    u: usize,
-    v: usize,
-    z: usize,
-    f: usize,
-    i: usize,
-) -> Taken
-    requires { ChainThere e w1.old w2.old t u v z f i }
-    ensures { StepTaken e w1.old w2.old w1.new w2.new t
-        (chain u v z (inner_at e w1.old u f)) result }
+// The chain step at z, of the chain that is entered at a stop and ends at v.
+fn take_chain(graph: &mut WorkingGraph, t: usize, v: usize, z: usize, from: Stop) -> Taken
+    requires { ChainThere graph.old t v z from }
+    ensures { StepTaken graph.old graph.new t (chain from.last v z (inner_of graph.old from)) result }
 {
-    let cleared = clear_row(w1, w2, e, t, u, f, i, v);
-    let pairs = cleared.pairs;
+    let u = from.last;
+    let pairs = clear_row(graph, t, from, v);
     let end = t + pairs;
-    let points = rows::chain_points(&w2[t..end]);
+    let points = row_on_trail(graph, t, end).chain_points();
     let q = points.inner;
-    let raised = putting::put_ends(
-        w1,
-        w2,
-        cleared.slots,
+    let ends = Ends {
         u,
         v,
         z,
-        points.whole - q,
-        points.less_u - q,
-        points.less_v - q,
+        uv: points.whole - q,
+        vz: points.less_u - q,
+        uz: points.less_v - q,
+    };
+    let more = putting::put_ends(graph, ends);
+    graph.set_word(
+        end,
+        words::closing_word(Step::Chain { u, v, z }, pairs, more),
     );
-    w2[end] = words::closing_word(CHAIN, u, v, z, pairs, raised.more);
     Taken {
-        slots: raised.slots,
         trail: end + 1,
         carried: q,
     }
 }
 
-// Takes the step that was found.
-pub fn take_step(w1: &mut [u64], w2: &mut [u64], e: usize, t: usize, x: Found) -> Taken
-    requires { StepThere e w1.old w2.old t x }
-    ensures { (s : Step) → step_of (graph_of e w1.old) x ≡ some s
-        → StepTaken e w1.old w2.old w1.new w2.new t s result }
+// Where the row of a step that was found is entered from u.
+fn entry(x: Found, u: usize) -> Stop
+    ensures { result ≡ entered x u }
 {
-    let step = x.step;
-    let first = x.first;
-    let slot = x.slot;
-    match step {
-        finding::Step::Leaf { v, u } => take_leaf(w1, w2, e, t, v, u, slot),
-        finding::Step::Ring { u, z } => take_ring(w1, w2, e, t, u, z, first, slot),
-        finding::Step::Chain { u, v, z } => take_chain(w1, w2, e, t, u, v, z, first, slot),
-        finding::Step::None => Taken {
-            slots: e,
-            trail: t,
-            carried: 0,
-        },
+    Stop {
+        end: x.first,
+        last: u,
+        slot: x.slot,
+    }
+}
+
+// Takes the step that was found.
+pub fn take_step(graph: &mut WorkingGraph, t: usize, x: Found) -> Taken
+    requires { StepThere graph.old t x }
+    ensures { StepTaken graph.old graph.new t (step_of (graph_in graph.old) x) result }
+{
+    match x.step {
+        Step::Leaf { v, u } => take_leaf(graph, t, v, u, x.slot),
+        Step::Ring { u, z } => take_ring(graph, t, z, entry(x, u)),
+        Step::Chain { u, v, z } => take_chain(graph, t, v, z, entry(x, u)),
     }
 }

@@ -1,21 +1,19 @@
 -- The entries of a raw list as words, and the store list that they make. In order: loading them; they fit their fields;
--- the words in order are the entries in order (`order_words`); the file of these words, refused or written by the
--- output's room (`tidy_refused`, `tidy_written`); refusals 1 and 13 (`tidy_one`, `tidy_thirteen`, `tidy_passed`).
+-- the words in order are the entries in order (`order_words`); the file of these words (`order_length`, `tidy_written`);
+-- refusals 1 and 13 (`tidy_refused`, `raw_refused`, `tidy_passed`).
 -- Assumes nothing.
 use mathlib.Core.Path.{◌≡◌, refl, sym, ap, ◌∙◌}
-use mathlib.Core.Bool.{Bool, true, false}
+use mathlib.Core.Bool.{Bool, false}
 use mathlib.Core.List.{List, [], ◌∷◌, ◌++◌, map, map-map, append-nil}
-use Prim.Native.Nat.{ℕ, ◌+◌, ◌*◌, ◌-◌, ◌≤◌, ◌<◌}
+use Prim.Native.Nat.{ℕ, ◌+◌, ◌≤◌, ◌<◌}
 use native.Mathlib.Omega.{arith}
-use native.Mathlib.Nat.{sub-zero}
 use lib.ListN.{length, take, drop, set, drop_of_length-le, length-map}
-use lib.Seq.{length-take-le, take-append-le}
-use borrow.Rule.Slice.PartMut.{post_of}
+use lib.Seq.{take-append-le}
 use Rattle.matching.specs.Lists.{All}
 use Rattle.matching.specs.Listed.{Entry}
 use Rattle.matching.proofs.Alls.{all_map}
 use Rattle.cellfile.specs.Fields.{packed}
-use Rattle.cellfile.specs.Files.{store_list, cells_of, count_of, list_layout, entries_all, entry_key, as_fields, onto}
+use Rattle.cellfile.specs.Files.{store_list, cells_of, count_of, entries_all, entry_key, as_fields, onto, file_length}
 use Rattle.cellfile.specs.Fits.{FitsFields}
 use Rattle.cellfile.specs.Reads.{EntryRead}
 use Rattle.cellfile.specs.Words.{store_word, words_file}
@@ -24,12 +22,13 @@ use Rattle.cellfile.proofs.All.{all_values}
 use Rattle.cellfile.proofs.Lists.{view_all, view_small}
 use Rattle.cellfile.proofs.Walk.{entries_count, entry_next}
 use Rattle.cellfile.proofs.Outputs.{plain_store, words_length, records_file}
-use Rattle.checks.specs.Refusals.{is_bad_raw}
-use Rattle.checks.specs.Loops.{WholeFile}
+use Rattle.checks.specs.Refusals.{first, is_bad_raw}
+use Rattle.checks.specs.Calls.{number}
+use Rattle.checks.specs.declared.Refusal.{Refusal}
 use Rattle.checks.proofs.Rows.{bad_raw_none}
 use Rattle.cellfile.specs.Answers.{Answer}
 use Rattle.checks.specs.Answering.{Output, Does}
-use Rattle.checks.proofs.Answering.{Unchanged, refused, passed, one_refused, one_written}
+use Rattle.checks.proofs.Answering.{Unchanged, refused, passed, one_written}
 use Rattle.checks.proofs.Accepted.{all_with}
 use Rattle.sorting.specs.Sorted.{sorted}
 use Rattle.sorting.specs.Words.{word_key}
@@ -60,14 +59,8 @@ load_end raw w {m} i c l g e =
 
 -- ---- what has passed 13
 
-pub raw_whole : {raw w1 w2 : List ℕ} {m : ℕ} → RawThere raw w1 w2 → m ≡ count_of raw
-    → WholeFile (list_layout raw) raw m × (m ≤ 4096)
-raw_whole {raw} t c =
-    let r = bad_raw_none raw t.accepted in (record { count = c; long = omega (arith, r.1) }, omega (arith, r.0.1))
-
--- the part of the buffer that the words fill
-pub part_length : (m : ℕ) (w : List ℕ) → m ≤ length w → length (take (m - 0) w) ≡ m
-part_length m w l = rw sub-zero (length-take-le m w l)
+pub raw_few : {raw w1 w2 : List ℕ} {m : ℕ} → RawThere raw w1 w2 → m ≡ count_of raw → m ≤ 4096
+raw_few {raw} t c = omega (arith, (bad_raw_none raw t.accepted).0.1)
 
 -- Cells of 10 bits, points of 20.
 abbrev pub FitsEntry : Entry → Type 0
@@ -109,16 +102,12 @@ module _ (raw : List ℕ) (accepted : is_bad_raw raw ≡ false) where
 
   -- put in order in their part of the buffer
   pub order_words : (w v : List ℕ) {r m : ℕ} → take m w ≡ map raw_word es → m ≡ count_of raw
-      → length v ≡ length (take (m - 0) w) → r ≤ length (take (m - 0) w)
-      → take r v ≡ sorted word_key (take (m - 0) w)
-      → (r ≤ 4096) × (take r (v ++ post_of 0 (m - 0) w) ≡ map store_word (tidied es))
-  order_words w v {r} {m} e c lv lr q = (
+      → length v ≡ length (take m w) → r ≤ length (take m w) → take r v ≡ sorted word_key (take m w)
+      → (r ≤ 4096) × (take r (v ++ drop m w) ≡ map store_word (tidied es))
+  order_words w v {r} {m} part c lv lr q = (
     omega (arith, ap length part, length-map es raw_word, entries_count raw, (bad_raw_none raw accepted).0.1),
-    take-append-le r v (post_of 0 (m - 0) w) (omega (arith, lv)) ∙ q ∙ ap (sorted word_key) part ∙ sorted_words,
+    take-append-le r v (drop m w) (omega (arith, lv)) ∙ q ∙ ap (sorted word_key) part ∙ sorted_words,
   )
-    where
-      part : take (m - 0) w ≡ map raw_word es
-      part = rw sub-zero e
 
   -- ---- the file of the words
 
@@ -126,27 +115,30 @@ module _ (raw : List ℕ) (accepted : is_bad_raw raw ≡ false) where
     order_file : {n : ℕ} → n ≡ cells_of raw → words_file store_list n r w ≡ tidy_file raw
     order_file c = rw c (records_file store_list (cells_of raw) r w as_fields (tidied es) e tidied_fit)
 
-    order_length : 4 + 5 * r ≡ length (tidy_file raw)
+    pub order_length : file_length store_list (cells_of raw) r ≡ length (tidy_file raw)
     order_length = words_length plain_store (cells_of raw) r w l ∙ ap length (order_file refl)
 
-    pub tidy_refused : (out : List ℕ) → length out < 4 + 5 * r → Does [] ((tidy_file raw, out, out) ∷ []) (12, [])
-    tidy_refused out h = one_refused (tidy_file raw) out order_length h
-
-    pub tidy_written : {n : ℕ} (out : List ℕ) {out' : List ℕ} → n ≡ cells_of raw → 4 + 5 * r ≤ length out
+    pub tidy_written : {n : ℕ} (out : List ℕ) {out' : List ℕ} → n ≡ cells_of raw
+        → length (tidy_file raw) ≤ length out
         → out' ≡ onto (words_file store_list n r w) out
-        → Does [] ((tidy_file raw, out, out') ∷ []) (0, (4 + 5 * r) ∷ [])
+        → Does [] ((tidy_file raw, out, out') ∷ []) (0, length (tidy_file raw) ∷ [])
     tidy_written out c h q =
-        one_written (tidy_file raw) out order_length h (q ∙ ap (λ f. onto f out) (order_file c))
+        one_written (tidy_file raw) out refl h (q ∙ ap (λ f. onto f out) (order_file c))
 
 -- ---- refusals 1 and 13
 
 module _ (few : Bool) (raw : List ℕ) {outs : List Output} where
-  pub tidy_one : few ≡ true → Unchanged outs → Does (tidy_rows few raw) outs (1, [])
-  tidy_one e u = refused ((1, few) ∷ []) ((13, is_bad_raw raw) ∷ []) 0 [] (rw e) u
+  pub tidy_refused : (r : Refusal) → number r ≡ first ((1, few) ∷ []) → Unchanged outs
+      → Does (tidy_rows few raw) outs (number r, [])
+  tidy_refused r e u = refused ((1, few) ∷ []) ((13, is_bad_raw raw) ∷ []) r e u
 
-  pub tidy_thirteen : few ≡ false → is_bad_raw raw ≡ true → Unchanged outs → Does (tidy_rows few raw) outs (13, [])
-  tidy_thirteen e b u = refused (tidy_rows few raw) [] 0 [] (rw (e, b)) u
+  module _ (enough : 0 ≡ first ((1, few) ∷ [])) where
+    pub raw_refused : (r : Refusal) → number r ≡ first ((13, is_bad_raw raw) ∷ []) → Unchanged outs
+        → Does (tidy_rows few raw) outs (number r, [])
+    raw_refused r e u = passed ((1, few) ∷ []) ((13, is_bad_raw raw) ∷ []) (omega arith) enough
+        (refused ((13, is_bad_raw raw) ∷ []) [] r e u)
 
-  pub tidy_passed : {a : Answer} → few ≡ false → is_bad_raw raw ≡ false → Does [] outs a
-      → Does (tidy_rows few raw) outs a
-  tidy_passed e b d = passed (tidy_rows few raw) [] (omega arith) (rw (e, b)) d
+    pub tidy_passed : {a : Answer} → 0 ≡ first ((13, is_bad_raw raw) ∷ []) → Does [] outs a
+        → Does (tidy_rows few raw) outs a
+    tidy_passed e d = passed ((1, few) ∷ []) ((13, is_bad_raw raw) ∷ []) (omega arith) enough
+        (passed ((13, is_bad_raw raw) ∷ []) [] (omega arith) e d)

@@ -1,17 +1,14 @@
--- The words of the trail. In order: a closing word by its rule (`told_leaf`, `told_ring`, `told_chain`, `told_none`);
--- what is read of it is what was written, the step (`step_read`), the number of its pairs (`pairs_read`), its direct
--- pair (`more_read`), and it has room for every step of a graph (`closable`); the pairs that are read of a row are the
--- row's (`row_pairs_is`); the trail of steps one behind the other (`trail_append`); 4,096 words hold the trail of every
--- slip that is allowed (`room_on_trail`); a run has the same words in a graph that says the same of its cells
--- (`words_same`). Assumes nothing.
+-- The words of the trail. In order: what is read of a closing word is what was written, the step (`step_read`), the
+-- number of its pairs (`pairs_read`), its direct pair (`more_read`), and it has room for every step of a graph
+-- (`closable`); the pairs that are read of a row are the row's (`row_pairs_is`); the trail of steps one behind the
+-- other (`trail_append`); 4,096 words hold the trail of every slip that is allowed (`room_on_trail`); a run has the
+-- same words in a graph that says the same of its cells (`words_same`). Assumes nothing.
 use mathlib.Core.Path.{◌≡◌, refl, sym, ap, ◌∙◌, ap₂}
-use mathlib.Core.Logic.{◌≢◌}
 use mathlib.Core.Bool.{Bool, true, false}
 use mathlib.Core.List.{List, [], ◌∷◌, ◌++◌, append_assoc}
 use mathlib.Core.Option.{some}
 use Prim.Native.Nat.{ℕ, suc, ◌+◌, ◌*◌, ◌/◌, ◌%◌, ◌≤◌, ◌<◌}
 use native.Mathlib.Omega.{arith}
-use borrow.Author.Tests.{ne_eqb}
 use lib.Dec.{eqb}
 use lib.ListN.{length, length-append}
 use Rattle.buffers.specs.Map.{unit}
@@ -29,29 +26,14 @@ use Rattle.matching.proofs.Segment.{row_below}
 use Rattle.matching.proofs.Count.{step_fewer}
 use Rattle.matching.proofs.Gone.{step_gone}
 use Rattle.matching.proofs.Exact.{step_graph}
-use Rattle.cellfile.specs.Answers.{Answer}
 use Rattle.rows.specs.Row.{words_of_row}
 use Rattle.rows.proofs.Parts.{length_row, row_few}
 use Rattle.finding.specs.Finding.{to_tell}
 use Rattle.finding.proofs.Gone.{Agree, agree_tail}
-use Rattle.trail.specs.Trail.{closing_of, Closable, cell_at, step_in, pairs_in, more_in, row_of, start_of, row_pairs}
+use Rattle.trail.specs.Trail.{closing_of, Closable, step_in, pairs_in, more_in, row_of, start_of, row_pairs}
 use Rattle.trail.specs.Trail.{step_words, trail}
 
 -- ---- a closing word
-
-module _ (word : ℕ) where
-  pub told_leaf : word % 4 ≡ 1 → ◌≡◌ {A = Answer} (1, cell_at 4096 word ∷ cell_at 4 word ∷ []) (step_in word)
-  told_leaf e = rw e
-
-  pub told_ring : word % 4 ≡ 2 → ◌≡◌ {A = Answer} (2, cell_at 4 word ∷ cell_at 4194304 word ∷ []) (step_in word)
-  told_ring e = rw e
-
-  pub told_chain : word % 4 ≡ 3
-      → ◌≡◌ {A = Answer} (3, cell_at 4 word ∷ cell_at 4096 word ∷ cell_at 4194304 word ∷ []) (step_in word)
-  told_chain e = rw e
-
-  pub told_none : word % 4 ≢ 1 → word % 4 ≢ 2 → word % 4 ≢ 3 → ◌≡◌ {A = Answer} (0, []) (step_in word)
-  told_none p q r = rw (ne_eqb (word % 4) 1 p, ne_eqb (word % 4) 2 q, ne_eqb (word % 4) 3 r)
 
 -- a cell's place: what stands above it, k, does not count
 cell_field : (x c k : ℕ) → c < 1024 → x ≡ c + 1024 * k → x % 1024 ≡ c

@@ -2,43 +2,51 @@
 use Rattle.std.specs.Prelude.{◌≡◌, List, [], ◌∷◌, ◌++◌, ℕ, ◌+◌, ◌*◌, ◌≤◌, ◌<◌, suc, get_or, set, take, length}
 use Rattle.buffers.specs.Map.{trail_room, at_names, unit}
 use Rattle.matching.specs.Graph.{put, dropped}
-use Rattle.slots.specs.Slots.{Holds, graph_of, low_of, high_of, live, Joins}
 use Rattle.matching.specs.Shapes.{IsRow, first}
 use Rattle.rows.specs.Row.{words_of_row}
+use Rattle.slots.specs.Slots.{low_of, high_of, live, Joins}
+use Rattle.slots.specs.Working.{graph_in, SameBuffers}
+use Rattle.slots.specs.declared.graph.WorkingGraph.{WorkingGraph}
 use Rattle.finding.specs.Rows.{inner_at}
+use Rattle.finding.specs.declared.Stop.{Stop}
 
--- A live slot i, of points that fit a word, and room for a word on the trail at place t.
-pub record PairThere (e : ℕ) (w1 w2 : List ℕ) (t prev i : ℕ) : Type 0 where
-  pub holds : Holds e w1 w2
-  pub below : i < e
-  pub points : 0 < get_or w1 i 0
-  pub fits : get_or w1 i 0 < unit
-  pub cell : prev < 1024
+-- The inner cells of the row that is entered at a stop.
+abbrev pub inner_of : WorkingGraph → Stop → List ℕ
+inner_of g s = inner_at g.slots g.w1.now s.last s.end
+
+-- A live slot, of points that fit a word, and room for a word on the trail at place t.
+pub record PairThere (g : WorkingGraph) (t : ℕ) (s : Stop) : Type 0 where
+  pub below : s.slot < g.slots
+  pub points : 0 < get_or g.w1.now s.slot 0
+  pub fits : get_or g.w1.now s.slot 0 < unit
+  pub cell : s.last < 1024
   pub room : t < trail_room
 
--- The pair of slot i is gone, its word stands on the trail at place t; words from `at_names` on did not change.
-pub record PairTaken (e : ℕ) (w1 w2 w1' w2' : List ℕ) (t prev i : ℕ) : Type 0 where
-  pub holds : Holds e w1' w2'
-  pub weights : w1' ≡ set w1 i 0
-  pub graph : graph_of e w1' ≡ put (low_of w1 i) (high_of w1 i) 0 (graph_of e w1)
-  pub trail : take (t + 1) w2' ≡ take t w2 ++ (prev * unit + get_or w1 i 0) ∷ []
-  pub fewer : live e w1' + 1 ≡ live e w1
-  pub aside : (j : ℕ) → at_names ≤ j → get_or w2' j 0 ≡ get_or w2 j 0
+-- The pair of the slot is gone, its word stands on the trail at place t; words from `at_names` on did not change.
+pub record PairTaken (g g' : WorkingGraph) (t : ℕ) (s : Stop) : Type 0 where
+  pub slots : g'.slots ≡ g.slots
+  pub weights : g'.w1.now ≡ set g.w1.now s.slot 0
+  pub graph : graph_in g' ≡ put (low_of g.w1.now s.slot) (high_of g.w1.now s.slot) 0 (graph_in g)
+  pub trail : take (t + 1) g'.w2.now ≡ take t g.w2.now ++ (s.last * unit + get_or g.w1.now s.slot 0) ∷ []
+  pub fewer : live g'.slots g'.w1.now + 1 ≡ live g.slots g.w1.now
+  pub aside : (j : ℕ) → at_names ≤ j → get_or g'.w2.now j 0 ≡ get_or g.w2.now j 0
+  pub buffers : SameBuffers g g'
 
--- Two or more cells of degree two from u, first f by slot i, to v; room for their words on the trail from place t on.
-pub record RowThere (e : ℕ) (w1 w2 : List ℕ) (t u f i v : ℕ) : Type 0 where
-  pub holds : Holds e w1 w2
-  pub row : IsRow 1024 (graph_of e w1) u (inner_at e w1 u f) v
-  pub starts : first v (inner_at e w1 u f) ≡ f
-  pub joins : Joins e w1 i u f
-  pub room : t + length (inner_at e w1 u f) < trail_room
-  pub fits : (a b : ℕ) → graph_of e w1 a b < unit
+-- Two or more cells of degree two from the stop to v, entered by its slot; room for their words on the trail from
+-- place t on.
+pub record RowThere (g : WorkingGraph) (t : ℕ) (s : Stop) (v : ℕ) : Type 0 where
+  pub row : IsRow 1024 (graph_in g) s.last (inner_of g s) v
+  pub starts : first v (inner_of g s) ≡ s.end
+  pub joins : Joins g.slots g.w1.now s.slot s.last s.end
+  pub room : t + length (inner_of g s) < trail_room
+  pub fits : (a b : ℕ) → graph_in g a b < unit
 
 -- The row's words stand on the trail, its k pairs are gone; words from `at_names` on did not change.
-pub record RowTaken (e : ℕ) (w1 w2 w1' w2' : List ℕ) (t u f v k : ℕ) : Type 0 where
-  pub count : k ≡ suc (length (inner_at e w1 u f))
-  pub holds : Holds e w1' w2'
-  pub graph : graph_of e w1' ≡ dropped (inner_at e w1 u f) (graph_of e w1)
-  pub trail : take (t + k) w2' ≡ take t w2 ++ words_of_row (graph_of e w1) u (inner_at e w1 u f) v
-  pub fewer : live e w1' + k ≡ live e w1
-  pub aside : (j : ℕ) → at_names ≤ j → get_or w2' j 0 ≡ get_or w2 j 0
+pub record RowTaken (g g' : WorkingGraph) (t : ℕ) (s : Stop) (v k : ℕ) : Type 0 where
+  pub count : k ≡ suc (length (inner_of g s))
+  pub slots : g'.slots ≡ g.slots
+  pub graph : graph_in g' ≡ dropped (inner_of g s) (graph_in g)
+  pub trail : take (t + k) g'.w2.now ≡ take t g.w2.now ++ words_of_row (graph_in g) s.last (inner_of g s) v
+  pub fewer : live g'.slots g'.w1.now + k ≡ live g.slots g.w1.now
+  pub aside : (j : ℕ) → at_names ≤ j → get_or g'.w2.now j 0 ≡ get_or g.w2.now j 0
+  pub buffers : SameBuffers g g'

@@ -9,6 +9,8 @@ use Rattle.matching.specs.Steps.{Step, leaf, ring, chain, apply, outweighs, Rule
 use Rattle.matching.specs.Slip.{replay, left, carried}
 use Rattle.cellfile.specs.Answers.{Answer}
 use Rattle.rows.specs.Row.{words_of_row}
+use Rattle.finding.specs.declared.Step as declared
+use Rattle.finding.specs.declared.Step.TheVariants as found
 
 -- ---- the word that closes a step's part
 
@@ -17,6 +19,23 @@ use Rattle.rows.specs.Row.{words_of_row}
 abbrev pub closing : ℕ → ℕ → ℕ → ℕ → ℕ → ℕ → ℕ
 closing rule u v z pairs more =
     rule + u * 4 + v * 4096 + z * 4194304 + pairs * 4294967296 + more * 35184372088832
+
+-- The same of a step as the enum tells it: its part of the word, and the whole word.
+abbrev pub step_part : declared.Step → ℕ
+step_part (found.Leaf v u) = closing 1 u v 0 0 0
+step_part (found.Ring u z) = closing 2 u 0 z 0 0
+step_part (found.Chain u v z) = closing 3 u v z 0 0
+
+abbrev pub closing_told : declared.Step → ℕ → Bool → ℕ
+closing_told (found.Leaf v u) pairs more = closing 1 u v 0 pairs (ι more)
+closing_told (found.Ring u z) pairs more = closing 2 u 0 z pairs (ι more)
+closing_told (found.Chain u v z) pairs more = closing 3 u v z pairs (ι more)
+
+-- The word has room for its cells.
+abbrev pub CellsFit : declared.Step → Type 0
+CellsFit (found.Leaf v u) = (u < 1024) × (v < 1024)
+CellsFit (found.Ring u z) = (u < 1024) × (z < 1024)
+CellsFit (found.Chain u v z) = (u < 1024) × (v < 1024) × (z < 1024)
 
 abbrev pub closing_of : Points → Step → ℕ
 closing_of w (leaf u v) = closing 1 u v 0 0 0

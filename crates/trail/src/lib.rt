@@ -6,44 +6,32 @@ pub mod words;
 
 ghost use Rattle.trail.specs.Taking.{RowThere, RowTaken, PairThere, PairTaken};
 
-use slots::{change, read};
+use finding::Stop;
+use slots::graph::WorkingGraph;
 
-// The pair of slot i goes; its word, from the cell prev, goes onto the trail at place t.
-fn take_pair(w1: &mut [u64], w2: &mut [u64], e: usize, t: usize, prev: usize, i: usize)
-    requires { PairThere e w1.old w2.old t prev i }
-    ensures { PairTaken e w1.old w2.old w1.new w2.new t prev i }
+// The pair of the walk's stop goes; its word, from the cell before, goes onto the trail at place t.
+fn take_pair(graph: &mut WorkingGraph, t: usize, at: Stop)
+    requires { PairThere graph.old t at }
+    ensures { PairTaken graph.old graph.new t at }
 {
-    let word = words::row_word(prev, w1[i]);
-    change::kill(w1, w2, e, i);
-    w2[t] = word;
+    let word = words::row_word(at.last, graph.w1[at.slot]);
+    graph.kill(at.slot);
+    graph.set_word(t, word);
 }
 
-// The row that leaves u at f by slot i goes, to its end v: its words stand on the trail from place t on. Their number.
-pub fn take_row(
-    w1: &mut [u64],
-    w2: &mut [u64],
-    e: usize,
-    t: usize,
-    u: usize,
-    f: usize,
-    i: usize,
-    v: usize,
-) -> usize
-    requires { RowThere e w1.old w2.old t u f i v }
-    ensures { RowTaken e w1.old w2.old w1.new w2.new t u f v result }
+// The row that is entered at a stop goes, to its end v: its words stand on the trail from place t on. Their number.
+pub fn take_row(graph: &mut WorkingGraph, t: usize, from: Stop, v: usize) -> usize
+    requires { RowThere graph.old t from v }
+    ensures { RowTaken graph.old graph.new t from v result }
 {
-    let mut prev = u;
-    let mut at = f;
-    let mut slot = i;
+    let mut at = from;
     let mut k = 0;
-    while at != v {
-        let next = read::step_on(w1, w2, e, at, prev, slot);
-        take_pair(w1, w2, e, t + k, prev, slot);
-        prev = at;
-        at = next.partner;
-        slot = next.slot;
+    while at.end != v {
+        let next = finding::onward(graph, at);
+        take_pair(graph, t + k, at);
+        at = next;
         k += 1;
     }
-    take_pair(w1, w2, e, t + k, prev, slot);
+    take_pair(graph, t + k, at);
     k + 1
 }

@@ -2,11 +2,11 @@
 // gives back what was written: proofs/Trail.
 ghost use Rattle.std.specs.Prelude.{◌≡◌, ◌+◌, ◌*◌, ◌<◌, ◌≤◌};
 ghost use Rattle.buffers.specs.Map.{unit};
-ghost use Rattle.finding.specs.Finding.{told};
-ghost use Rattle.trail.specs.Trail.{closing, step_in, pairs_in, more_in, cell_of};
+ghost use Rattle.finding.specs.Finding.{told_of};
+ghost use Rattle.trail.specs.Trail.{CellsFit, step_part, closing_told, step_in, pairs_in, more_in, cell_of, cell_at};
 
 use buffers::map;
-use cellfile::format::{CHAIN, LEAF, RING};
+use cellfile::format::Rule;
 use finding::Step;
 
 // The places of the closing word's parts.
@@ -22,36 +22,52 @@ const PAIRS: u64 = 4294967296;
 
 const MORE: u64 = 35184372088832;
 
-// The word that closes a step's part of the trail.
-pub fn closing_word(rule: u64, u: usize, v: usize, z: usize, pairs: usize, more: u64) -> u64
-    requires { (rule ≤ 3) × (u < 1024) × (v < 1024) × (z < 1024) × (pairs ≤ 4096) × (more ≤ 1) }
-    ensures { result ≡ closing rule u v z pairs more }
+// The rule and the cells of a step, at their places.
+fn step_word(step: Step) -> u64
+    requires { CellsFit step }
+    ensures { result ≡ step_part step }
 {
-    rule + u as u64 * CELL_U
-        + v as u64 * CELL_V
-        + z as u64 * CELL_Z
-        + pairs as u64 * PAIRS
-        + more * MORE
+    match step {
+        Step::Leaf { v, u } => u64::from(Rule::Leaf) + u as u64 * CELL_U + v as u64 * CELL_V,
+        Step::Ring { u, z } => u64::from(Rule::Ring) + u as u64 * CELL_U + z as u64 * CELL_Z,
+        Step::Chain { u, v, z } => {
+            u64::from(Rule::Chain) + u as u64 * CELL_U + v as u64 * CELL_V + z as u64 * CELL_Z
+        }
+    }
+}
+
+// The word that closes a step's part of the trail.
+pub fn closing_word(step: Step, pairs: usize, more: bool) -> u64
+    requires { CellsFit step × (pairs ≤ 4096) }
+    ensures { result ≡ closing_told step pairs more }
+{
+    step_word(step) + pairs as u64 * PAIRS + u64::from(more) * MORE
+}
+
+// The cell at a place of a word.
+fn cell_at(word: u64, place: u64) -> usize
+    requires { 0 < place }
+    ensures { result ≡ cell_at place word }
+{
+    (word / place % map::CELL_FIELD) as usize
 }
 
 // The step that a word closes.
-pub fn step_of(word: u64) -> Step
-    ensures { told result ≡ step_in word }
+pub fn step_of(word: u64) -> Option<Step>
+    ensures { told_of result ≡ step_in word }
 {
     let rule = word % RULES;
-    let u = (word / CELL_U % map::CELL_FIELD) as usize;
-    let v = (word / CELL_V % map::CELL_FIELD) as usize;
-    let z = (word / CELL_Z % map::CELL_FIELD) as usize;
-    if rule == LEAF {
-        return Step::Leaf { v, u };
+    if rule == 0 {
+        return None;
     }
-    if rule == RING {
-        return Step::Ring { u, z };
+    let u = cell_at(word, CELL_U);
+    let v = cell_at(word, CELL_V);
+    let z = cell_at(word, CELL_Z);
+    match Rule::named(rule) {
+        Rule::Leaf => Some(Step::Leaf { v, u }),
+        Rule::Ring => Some(Step::Ring { u, z }),
+        Rule::Chain => Some(Step::Chain { u, v, z }),
     }
-    if rule == CHAIN {
-        return Step::Chain { u, v, z };
-    }
-    Step::None
 }
 
 // The number of pairs in its row.

@@ -1,15 +1,14 @@
 -- The way back through all the steps on the trail. In order: a slip that is allowed, without its last step
--- (`replay_last`); a trail that is not empty has a last step (`back_last`), which is to be undone (`back_there`); what
--- undoing it leaves is a trail to go back on with the same outcome (`Onward`, `onward_next`); an empty trail is the end
+-- (`replay_last`); of some steps there is a last one (`back_last`), which is to be undone (`back_there`); what undoing
+-- it leaves is a trail to go back on with the same outcome (`Onward`, `onward_there`, `onward_next`); no step is the end
 -- of it (`onward_end`). Assumes nothing.
 use mathlib.Core.Path.{◌≡◌, refl, sym, ap, subst, ◌∙◌}
 use mathlib.Core.Logic.{◌⊎◌, inl, inr}
 use mathlib.Core.List.{List, [], ◌∷◌, ◌++◌, append-nil, map}
 use mathlib.Core.Option.{Option, some, none}
-use Prim.Native.Nat.{ℕ, suc, ◌+◌, ◌-◌, ◌≤◌, ◌<◌}
+use Prim.Native.Nat.{ℕ, suc, ◌+◌, ◌-◌, ◌<◌}
 use native.Mathlib.Omega.{arith}
 use lib.ListN.{length, length-append}
-use lib.Seq.{length-take-le}
 use Rattle.matching.specs.Pairs.{Pair, Points}
 use Rattle.matching.specs.Pairing.{Pairing}
 use Rattle.matching.specs.Graph.{Graph}
@@ -24,7 +23,7 @@ use Rattle.matching.proofs.Origin.{lift_last, origins_last}
 use Rattle.matching.proofs.Reduce.{replay_fits, replay_more}
 use Rattle.matching.proofs.Demand.{slip_graph}
 use Rattle.trail.specs.Trail.{step_words, trail}
-use Rattle.trail.proofs.Trail.{trail_append, step_some}
+use Rattle.trail.proofs.Trail.{trail_append}
 use Rattle.partners.specs.Table.{Mates}
 use Rattle.undoing.specs.Back.{UndoThere, Undone, BackThere, Lifted}
 
@@ -67,7 +66,7 @@ replay_last n w (t ∷ ss) s h =
 -- ---- the last step of a trail
 
 -- The steps before the last one, and the last one.
-pub record Last {t count : ℕ} {w1 w2 : List ℕ} (b : BackThere t count w1 w2) : Type 0 where
+record Last {t count : ℕ} {w1 w2 : List ℕ} (b : BackThere t count w1 w2) : Type 0 where
   init : List Step
   step : Step
   is : b.steps ≡ init ++ step ∷ []
@@ -93,19 +92,15 @@ last_view (t ∷ ss) = go (last_view ss)
     go (inr (init, s, e)) = inr (t ∷ init, s, ap (λ (xs : List Step). t ∷ xs) e)
 
 module _ {t count : ℕ} {w1 w2 : List ℕ} (b : BackThere t count w1 w2) where
-  trail_length : t ≡ length (trail b.w b.steps)
-  trail_length =
-      sym (length-take-le t w2 (omega (arith, b.rooms.most, b.rooms.room2))) ∙ ap length b.trail
-
-  pub back_last : 0 < t → Last b
+  back_last : 0 < count → Last b
   back_last l = go (last_view b.steps)
     where
       go : (b.steps ≡ []) ⊎ ((init : List Step) × (s : Step) × (b.steps ≡ init ++ s ∷ [])) → Last b
       go (inl e) =
-          (let z : ⊥ = omega (arith, trail_length, ap (λ (ss : List Step). length (trail b.w ss)) e) in absurd z)
+          (let z : ⊥ = omega (arith, b.count_is, ap (λ (ss : List Step). length ss) e) in absurd z)
       go (inr (init, s, e)) = record { init = init; step = s; is = e }
 
-  back_none : t ≡ 0 → Lifted t count w1 w2 w2 b
+  back_none : count ≡ 0 → Lifted t count w1 w2 w2 b
   back_none z = go b.steps refl
     where
       go : (ss : List Step) → b.steps ≡ ss → Mates w2 (from_of b) (pairs_of b)
@@ -113,13 +108,7 @@ module _ {t count : ℕ} {w1 w2 : List ℕ} (b : BackThere t count w1 w2) where
           subst (λ (xs : List Step). Mates w2 (origins_by b.from b.w 1 xs b.pairs) (lift b.w xs b.pairs))
           (sym e) b.mates
       go (s ∷ ss) e =
-          (let y : ⊥ = omega (
-            arith,
-            trail_length,
-            ap (λ (xs : List Step). length (trail b.w xs)) e,
-            length-append (step_words b.w s) (trail (apply b.w s) ss),
-            step_some b.w s,
-          ) in absurd y)
+          (let y : ⊥ = omega (arith, b.count_is, ap (λ (xs : List Step). length xs) e) in absurd y)
 
   module _ (l : Last b) where
     abbrev before : Points
@@ -143,7 +132,7 @@ module _ {t count : ℕ} {w1 w2 : List ℕ} (b : BackThere t count w1 w2) where
     count_last : count ≡ suc (length l.init)
     count_last = omega (arith, b.count_is, ap length l.is, length-append l.init (l.step ∷ []))
 
-    pub back_there : UndoThere t count w1 w2
+    back_there : UndoThere t count w1 w2
     back_there = record {
       rooms = b.rooms;
       n = b.n;
@@ -217,18 +206,17 @@ module _ {t count : ℕ} {w1 w2 : List ℕ} (b : BackThere t count w1 w2) where
 
 module _ {t count left number : ℕ} {w1₀ w2₀ w1 w2 : List ℕ} (b : BackThere t count w1₀ w2₀)
     (o : Onward b left number w1 w2) where
-  pub onward_next : {r : ℕ} {w1' w2' : List ℕ} (l : 0 < left) → length w1' ≡ length w1 → length w2' ≡ length w2
+  pub onward_there : 0 < number → UndoThere left number w1 w2
+  onward_there l = back_there o.0 (back_last o.0 l)
+
+  pub onward_next : {r : ℕ} {w1' w2' : List ℕ} → 0 < number → length w1' ≡ length w1 → length w2' ≡ length w2
       → ((u : UndoThere left number w1 w2) → Undone left number w1 w2 w2' r u) → Onward b r (number - 1) w1' w2'
   onward_next l p q d =
       let k = back_last o.0 l in
       let n = back_on o.0 k p q (d (back_there o.0 k)) in
       (n.0, n.1 ∙ o.1, n.2 ∙ o.2)
 
-  -- there is a step to count
-  pub onward_some : 0 < left → 1 ≤ number
-  onward_some l = omega (arith, count_last o.0 (back_last o.0 l))
-
-  pub onward_end : left ≡ 0 → Lifted t count w1₀ w2₀ w2 b
+  pub onward_end : number ≡ 0 → Lifted t count w1₀ w2₀ w2 b
   onward_end z =
       subst (λ (f : Origins). Mates w2 f (pairs_of b)) o.2
       (subst (Mates w2 (from_of o.0)) o.1 (back_none o.0 z))

@@ -1,7 +1,7 @@
 -- The last step on the trail, read from its closing word. In order: the step's words on the trail (`last_word`,
 -- `last_row`, `last_trail`); what undoing a leaf, a ring and a chain asks (`leaf_there`, `ring_there`, `chain_there`)
 -- and leaves (`leaf_undone`, `ring_undone`, `chain_undone`). Assumes nothing.
-use mathlib.Core.Path.{◌≡◌, refl, sym, ap, subst, ◌∙◌}
+use mathlib.Core.Path.{◌≡◌, sym, ap, subst, ◌∙◌}
 use mathlib.Core.Bool.{Bool}
 use mathlib.Core.List.{List, [], ◌∷◌, ◌++◌, append_assoc}
 use mathlib.Core.Option.{some}
@@ -13,8 +13,8 @@ use Rattle.buffers.specs.Map.{trail_room}
 use Rattle.matching.specs.Steps.{Rule, by_leaf, by_ring, by_chain, Step, leaf, ring, chain, name, inside}
 use Rattle.matching.specs.Origin.{from_step}
 use Rattle.matching.proofs.Find.{is_fits}
-use Rattle.matching.proofs.Search.{none_some}
-use Rattle.finding.specs.Finding.{told, as_step}
+use Rattle.cellfile.specs.Answers.{Answer}
+use Rattle.finding.specs.Finding.{told, to_tell, as_step}
 use Rattle.finding.specs.declared.Step as declared
 use Rattle.finding.specs.declared.Step.TheVariants as found
 use Rattle.finding.proofs.Told.{told_same}
@@ -24,6 +24,11 @@ use Rattle.origins.specs.Stamps.{stamp_for}
 use Rattle.undoing.specs.Back.{UndoThere, Undone}
 use Rattle.undoing.specs.Unwinding.{words_at, StepBack, UndoneTable, LeafBack, RingBack, ChainBack}
 use Rattle.undoing.proofs.Marking.{words_same}
+
+untold : {P : Type 0} (s : Step) → (0, []) ≡ to_tell (some s) → P
+untold (leaf u v) q = (let y : 0 ≡ 1 = ap (λ (a : Answer). a.0) q in absurd (omega (arith, y)))
+untold (ring u z inner) q = (let y : 0 ≡ 2 = ap (λ (a : Answer). a.0) q in absurd (omega (arith, y)))
+untold (chain u v z inner) q = (let y : 0 ≡ 3 = ap (λ (a : Answer). a.0) q in absurd (omega (arith, y)))
 
 module _ {t number : ℕ} {w1 w2 : List ℕ} (h : UndoThere t number w1 w2) where
   abbrev row : List ℕ
@@ -129,19 +134,24 @@ module _ {t number : ℕ} {w1 w2 : List ℕ} (h : UndoThere t number w1 w2) wher
     }
 
     -- marks for each pair of the row
-    pub marks_many : length (take (k - 0) w1) ≡ k
-    marks_many =
-        let q : k - 0 ≡ k = omega arith in
-        ap (λ (j : ℕ). length (take j w1)) q ∙ length-take-le k w1 last_room
+    abbrev marks : List ℕ
+    marks = take k w1
 
-    on_place : (marks : List ℕ) → length marks ≡ k → t - 1 - k + length marks ≤ trail_room
-    on_place marks q = omega (arith, q, last_fits, h.rooms.most)
+    last_many : length marks ≡ k
+    last_many = length-take-le k w1 last_room
 
-    words_at_is : (marks : List ℕ) → length marks ≡ k → words_at (t - 1 - k) marks w2 ≡ row
-    words_at_is marks q = ap (λ (j : ℕ). take j (drop (t - 1 - k) w2)) q ∙ last_row
+    on_place : t - 1 - k + length marks ≤ trail_room
+    on_place = omega (arith, last_many, last_fits, h.rooms.most)
+
+    words_at_is : words_at (t - 1 - k) marks w2 ≡ row
+    words_at_is = ap (λ (j : ℕ). take j (drop (t - 1 - k) w2)) last_many ∙ last_row
+
+    -- some step closes the trail
+    pub none_there : {P : Type 0} → (0, []) ≡ step_in (get_or w2 (t - 1) 0) → P
+    none_there read = untold h.step (read ∙ step_read (get_or w2 (t - 1) 0) h.w h.step step_closable last_word)
 
     module _ {x : declared.Step} (read : told x ≡ step_in (get_or w2 (t - 1) 0)) where
-      step_is : {y : declared.Step} → x ≡ y → as_step y (λ u. inside h.step) ≡ some h.step
+      step_is : {y : declared.Step} → x ≡ y → as_step y (λ u. inside h.step) ≡ h.step
       step_is q =
           ap (λ y. as_step y (λ u. inside h.step)) (sym q)
           ∙ told_same x h.step (read ∙ step_read (get_or w2 (t - 1) 0) h.w h.step step_closable last_word)
@@ -171,52 +181,48 @@ module _ {t number : ℕ} {w1 w2 : List ℕ} (h : UndoThere t number w1 w2) wher
       unfolding leaf_there
       leaf_undone q is l d = undone l (is_leaf q) (d (leaf_there q is))
 
-      module _ (marks : List ℕ) (as_many : length marks ≡ k) where
-        pub ring_there : {u z stamp : ℕ} → x ≡ found.Ring u z → StampOf stamp by_ring
-            → RingBack (t - 1 - k) u z stamp marks w2
-        ring_there q is = record {
-          w = h.w;
-          inner = inside h.step;
-          number = number;
-          from = h.from;
-          pairs = h.pairs;
-          back = step_back (is_ring q) is;
-          on_trail = on_place marks as_many;
-          words = words_at_is marks as_many ∙ ap (row_of h.w) (is_ring q);
-        }
+      pub ring_there : {u z stamp : ℕ} → x ≡ found.Ring u z → StampOf stamp by_ring
+          → RingBack (t - 1 - k) u z stamp marks w2
+      ring_there q is = record {
+        w = h.w;
+        inner = inside h.step;
+        number = number;
+        from = h.from;
+        pairs = h.pairs;
+        back = step_back (is_ring q) is;
+        on_trail = on_place;
+        words = words_at_is ∙ ap (row_of h.w) (is_ring q);
+      }
 
-        pub ring_undone : {u z stamp : ℕ} (q : x ≡ found.Ring u z) → StampOf stamp by_ring
-            → {w2' : List ℕ} → length w2' ≡ length w2
-            → ((b : RingBack (t - 1 - k) u z stamp marks w2)
-            → UndoneTable w2 w2' b.w (ring u z b.inner) b.number b.from b.pairs)
-            → Undone t number w1 w2 w2' (t - 1 - k) h
-        unfolding ring_there
-        ring_undone q is l d = undone l (is_ring q) (d (ring_there q is))
+      pub ring_undone : {u z stamp : ℕ} (q : x ≡ found.Ring u z) → StampOf stamp by_ring
+          → {w2' : List ℕ} → length w2' ≡ length w2
+          → ((b : RingBack (t - 1 - k) u z stamp marks w2)
+          → UndoneTable w2 w2' b.w (ring u z b.inner) b.number b.from b.pairs)
+          → Undone t number w1 w2 w2' (t - 1 - k) h
+      unfolding ring_there
+      ring_undone q is l d = undone l (is_ring q) (d (ring_there q is))
 
-        pub chain_there : {u v z stamp : ℕ} {more : Bool} → x ≡ found.Chain u v z → StampOf stamp by_chain
-            → more ≡ more_in (get_or w2 (t - 1) 0) → ChainBack (t - 1 - k) u v z more stamp marks w2
-        chain_there {u} {v} {z} q is m = record {
-          w = h.w;
-          inner = inside h.step;
-          number = number;
-          from = h.from;
-          pairs = h.pairs;
-          back = step_back (is_chain q) is;
-          on_trail = on_place marks as_many;
-          words = words_at_is marks as_many ∙ ap (row_of h.w) (is_chain q);
-          direct =
-              m
-              ∙ ap more_in (last_word ∙ ap (closing_of h.w) (is_chain q))
-              ∙ more_read h.w u v z (inside h.step) (subst Closable (is_chain q) step_closable);
-        }
+      pub chain_there : {u v z stamp : ℕ} {more : Bool} → x ≡ found.Chain u v z → StampOf stamp by_chain
+          → more ≡ more_in (get_or w2 (t - 1) 0) → ChainBack (t - 1 - k) u v z more stamp marks w2
+      chain_there {u} {v} {z} q is m = record {
+        w = h.w;
+        inner = inside h.step;
+        number = number;
+        from = h.from;
+        pairs = h.pairs;
+        back = step_back (is_chain q) is;
+        on_trail = on_place;
+        words = words_at_is ∙ ap (row_of h.w) (is_chain q);
+        direct =
+            m
+            ∙ ap more_in (last_word ∙ ap (closing_of h.w) (is_chain q))
+            ∙ more_read h.w u v z (inside h.step) (subst Closable (is_chain q) step_closable);
+      }
 
-        pub chain_undone : {u v z stamp : ℕ} {more : Bool} (q : x ≡ found.Chain u v z) → StampOf stamp by_chain
-            → more ≡ more_in (get_or w2 (t - 1) 0) → {w2' : List ℕ} → length w2' ≡ length w2
-            → ((b : ChainBack (t - 1 - k) u v z more stamp marks w2)
-            → UndoneTable w2 w2' b.w (chain u v z b.inner) b.number b.from b.pairs)
-            → Undone t number w1 w2 w2' (t - 1 - k) h
-        unfolding chain_there
-        chain_undone q is m l d = undone l (is_chain q) (d (chain_there q is m))
-
-      pub none_there : x ≡ found.None → ⊥
-      none_there q = none_some refl (step_is q)
+      pub chain_undone : {u v z stamp : ℕ} {more : Bool} (q : x ≡ found.Chain u v z) → StampOf stamp by_chain
+          → more ≡ more_in (get_or w2 (t - 1) 0) → {w2' : List ℕ} → length w2' ≡ length w2
+          → ((b : ChainBack (t - 1 - k) u v z more stamp marks w2)
+          → UndoneTable w2 w2' b.w (chain u v z b.inner) b.number b.from b.pairs)
+          → Undone t number w1 w2 w2' (t - 1 - k) h
+      unfolding chain_there
+      chain_undone q is m l d = undone l (is_chain q) (d (chain_there q is m))

@@ -8,18 +8,19 @@ ghost use Rattle.matching.specs.Steps.{leaf, ring, chain};
 ghost use Rattle.matching.specs.Origin.{Origins, from_step};
 ghost use Rattle.rows.specs.Row.{marked};
 ghost use Rattle.trail.specs.Trail.{row_pairs};
-ghost use Rattle.origins.specs.Stamps.{as_rule, stamp_for};
+ghost use Rattle.cellfile.specs.Kinds.{as_rule};
+ghost use Rattle.origins.specs.Stamps.{stamp_for};
 ghost use Rattle.partners.specs.Table.{joined};
 ghost use Rattle.undoing.specs.Back.{UndoThere, Undone, BackThere, Lifted};
 ghost use Rattle.undoing.specs.Unwinding.{parted, InTable, TableOf, words_at, PutThere};
 ghost use Rattle.undoing.specs.Unwinding.{ChainFreed, RingFreed, UndoneTable, LeafBack, RingBack, ChainBack};
 
-use buffers::clear;
 use buffers::map::{PARTNER_FIELD, TABLE};
+use cellfile::format::Rule;
 use finding::Step;
-use origins;
-use origins::{Origin, Rule};
+use origins::Origin;
 use partners;
+use rows::Row;
 use trail::words;
 
 // The pair x, y goes out of the table.
@@ -50,9 +51,7 @@ fn put_marked(marks: &[u64], w2: &mut [u64], a: usize, v: usize, stamp: u64)
         (marked marks.now (row_pairs (words_at a marks.now w2.old) v) ++ p.pairs) }
 {
     let mut to = v;
-    let mut j = marks.len();
-    while 0 < j {
-        j -= 1;
+    for j in (0..marks.len()).rev() {
         let from = words::cell_of(w2[a + j]);
         join_marked(w2, marks[j], from, to, stamp);
         to = from;
@@ -94,21 +93,17 @@ fn free_chain(w2: &mut [u64], u: usize, v: usize, z: usize, more: bool) -> Ends
             less_v: false,
         };
     }
-    let both = Ends {
-        less_u: true,
-        less_v: true,
-    };
-    if more {
-        return both;
-    }
-    if are_partners(w2, u, v) {
+    if !more && are_partners(w2, u, v) {
         part(w2, u, v);
         return Ends {
             less_u: false,
             less_v: false,
         };
     }
-    both
+    Ends {
+        less_u: true,
+        less_v: true,
+    }
 }
 
 // The pair that a ring step put for its row goes out of the table, where it is held; else the part leaves u free.
@@ -144,8 +139,9 @@ fn undo_ring(marks: &mut [u64], w2: &mut [u64], a: usize, u: usize, z: usize, st
 {
     let less_u = free_ring(w2, u, z);
     let end = a + marks.len();
-    clear(marks);
-    rows::mark_ring(&w2[a..end], less_u, marks);
+    marks.fill(0);
+    let row = Row { words: &w2[a..end] };
+    row.mark_ring(less_u, marks);
     put_marked(marks, w2, a, u, stamp);
 }
 
@@ -167,8 +163,9 @@ fn undo_chain(
 {
     let ends = free_chain(w2, u, v, z, more);
     let end = a + marks.len();
-    clear(marks);
-    rows::mark_chain(&w2[a..end], ends.less_u, ends.less_v, marks);
+    marks.fill(0);
+    let row = Row { words: &w2[a..end] };
+    row.mark_chain(ends.less_u, ends.less_v, marks);
     put_marked(marks, w2, a, v, stamp);
 }
 
@@ -177,8 +174,7 @@ fn stamp_by(number: u64, rule: Rule) -> u64
     requires { number < 2048 }
     ensures { (stamp_for (from_step number (as_rule rule)) ≡ result) × (result < 16384) }
 {
-    let origin = Origin::Step { number, rule };
-    origins::stamp_of(origin)
+    Origin::Step { number, rule }.stamp()
 }
 
 // Undoes the last step on the trail of t words, which has that number: the words of the trail that are left.
@@ -190,8 +186,9 @@ fn undo_step(w1: &mut [u64], w2: &mut [u64], t: usize, number: u64) -> usize
     let word = w2[t - 1];
     let k = words::pairs_of(word);
     let a = t - 1 - k;
-    let more = words::more_of(word);
-    let step = words::step_of(word);
+    let Some(step) = words::step_of(word) else {
+        return a;
+    };
     match step {
         Step::Leaf { v, u } => {
             let stamp = stamp_by(number, Rule::Leaf);
@@ -200,15 +197,15 @@ fn undo_step(w1: &mut [u64], w2: &mut [u64], t: usize, number: u64) -> usize
         }
         Step::Ring { u, z } => {
             let stamp = stamp_by(number, Rule::Ring);
-            undo_ring(&mut w1[0..k], w2, a, u, z, stamp);
+            undo_ring(&mut w1[..k], w2, a, u, z, stamp);
             a
         }
         Step::Chain { u, v, z } => {
             let stamp = stamp_by(number, Rule::Chain);
-            undo_chain(&mut w1[0..k], w2, a, u, v, z, more, stamp);
+            let more = words::more_of(word);
+            undo_chain(&mut w1[..k], w2, a, u, v, z, more, stamp);
             a
         }
-        Step::None => a,
     }
 }
 
@@ -219,9 +216,7 @@ pub fn lift_back(w1: &mut [u64], w2: &mut [u64], t: usize, steps: usize)
         → Lifted t steps w1.old w2.old w2.new b }
 {
     let mut left = t;
-    let mut number = steps as u64;
-    while 0 < left {
-        left = undo_step(w1, w2, left, number);
-        number -= 1;
+    for number in (1..=steps).rev() {
+        left = undo_step(w1, w2, left, number as u64);
     }
 }

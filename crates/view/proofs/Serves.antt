@@ -1,44 +1,35 @@
 -- Laws of the view. In order: how many entries are shown, by what the check of the list answers; what is served, with
 -- the number that is shown, by the tests of the place. Assumes nothing.
 use Prim.Native.Nat.{ℕ, ◌<◌, ◌≤◌}
-use mathlib.Core.Path.{◌≡◌, refl, ap, ◌∙◌}
+use mathlib.Core.Path.{◌≡◌, refl, sym, ap}
 use mathlib.Core.Bool.{Bool, true, false, cond, ◌&&◌}
 use mathlib.Core.List.{List, [], ◌∷◌}
 use native.Mathlib.Omega.{arith}
 use borrow.Author.Tests.{lt-ltb, le-ltb, eq-eqb, ne_eqb, eqb-true}
 use lib.Dec.{eqb, ltb}
-use lib.ListN.{length, get_or}
+use lib.ListN.{get_or}
 use Rattle.matching.specs.Listed.{Entry as ListEntry}
-use Rattle.cellfile.specs.Files.{cells_of, count_of, file_length, list_layout, entries_all, as_fields}
+use Rattle.cellfile.specs.Files.{count_of, list_layout, entries_all, as_fields}
 use Rattle.checks.specs.Refusals.{first, lists, list_rows}
-use Rattle.cellfile.specs.Answers.{Answer, answer}
-use Rattle.cellfile.specs.Reads.{EntryRead}
+use Rattle.cellfile.specs.Answers.{Answer}
+use Rattle.cellfile.specs.Reads.{EntryRead, WholeFile}
 use Rattle.cellfile.specs.declared.decode.Entry.{Entry}
-use Rattle.checks.proofs.Layers.{answer_refused}
-use Rattle.checks.proofs.Accepted.{list_accepted, entry_there}
+use Rattle.checks.specs.Calls.{number}
+use Rattle.checks.specs.declared.Refusal.{Refusal}
+use Rattle.checks.proofs.Layers.{number_some}
+use Rattle.checks.proofs.Accepted.{list_fits}
 use Rattle.view.specs.Serving.{serving, shown}
 
 -- ---- how many entries are shown
 
 module _ (list : List ℕ) where
-  pub shown_refused : {k : ℕ} → (k, []) ≡ answer (first (list_rows lists list)) (cells_of list ∷ count_of list ∷ [])
-      → 0 ≡ shown list
+  pub shown_refused : (r : Refusal) → number r ≡ first (list_rows lists list) → 0 ≡ shown list
   unfolding shown
-  shown_refused {k} e =
-      let h = answer_refused (first (list_rows lists list)) k (cells_of list) (count_of list ∷ []) e in
-      rw (ne_eqb (first (list_rows lists list)) 0 (λ q. omega arith))
+  shown_refused r e = rw (ne_eqb (first (list_rows lists list)) 0 (λ q. omega (arith, e, number_some r)))
 
-  pub shown_accepted : {n m : ℕ}
-      → (0, n ∷ m ∷ []) ≡ answer (first (list_rows lists list)) (cells_of list ∷ count_of list ∷ []) → m ≡ shown list
+  pub shown_accepted : {m : ℕ} → 0 ≡ first (list_rows lists list) → m ≡ count_of list → m ≡ shown list
   unfolding shown
-  shown_accepted e =
-      let h = list_accepted list e in
-      rw (eq-eqb (first (list_rows lists list)) 0 h.0) h.2
-
--- the length of a list, by its count
-pub long_as_said : (list : List ℕ) {m k : ℕ} → m ≡ count_of list → k ≡ file_length (list_layout list) (cells_of list) m
-    → k ≡ file_length (list_layout list) (cells_of list) (count_of list)
-long_as_said list e f = f ∙ rw e
+  shown_accepted e h = rw (eq-eqb (first (list_rows lists list)) 0 (sym e)) h
 
 -- ---- what is served of a view of the list
 
@@ -67,9 +58,11 @@ module _ (list : List ℕ) (count place : ℕ) (shows : count ≡ shown list) wh
       go false q e = absurd (omega arith)
 
   -- which the list has
-  pub served_room : place < count → (place < count_of list)
-      × (file_length (list_layout list) (cells_of list) (count_of list) ≤ length list)
-  served_room h = let e = here h in (e.1, (entry_there list place e.0 e.1).long)
+  pub served_room : place < count → WholeFile (list_layout list) list count
+  unfolding shown
+  served_room h = let e = here h in
+      let f = list_fits list e.0 in
+      record { count = rw (eq-eqb (first (list_rows lists list)) 0 e.0) at shows; long = omega (arith, f.2) }
 
   pub served_here : {e : Entry} → place < count → EntryRead list place e
       → (1, e.a ∷ e.b ∷ e.points ∷ []) ≡ serving list place

@@ -5,13 +5,6 @@ use Rattle.cellfile.specs.Files.{cells_of, entries_all, pairs_of}
 use Rattle.checks.specs.Refusals.{Row, first, too_few_words}
 use Rattle.checks.specs.Calls.{call_rows, form_row, hold_row}
 use Rattle.cellfile.specs.Answers.{Answer, answer}
-use Rattle.weighing.specs.declared.Weighed.{Weighed}
-use Rattle.weighing.specs.declared.Weighed.TheVariants as weighs
-
--- The number and the values of each case of the answer enum.
-abbrev pub weighed : Weighed → Answer
-weighed (weighs.Refused k) = (k, [])
-weighed (weighs.Points p) = (0, p ∷ [])
 
 -- Refusal 10. The pairing is for all entries of the list, those of zero points too.
 abbrev pub pair_row : List ℕ → List ℕ → Row

@@ -3,8 +3,9 @@ use mathlib.Core.Path.{sym, ◌∙◌}
 use Rattle.bounds.proofs.Rings.{rings_leaf, rings_ring}
 use Rattle.bounds.proofs.rings_after.Goals as goal
 
-pub returns-else-degree-ne1 : goal.returns-else-degree-ne1
-returns-else-degree-ne1 c = rings_leaf c.in-Leaf.is (sym c.degree.ensures ∙ c.if-degree-ne1.false)
+pub returns-in-Leaf : goal.returns-in-Leaf
+returns-in-Leaf c = rings_leaf c.in-Leaf.is (sym c.degree.ensures ∙ c.if-degree-eq1.true)
 
-pub returns-else-degree-ne2 : goal.returns-else-degree-ne2
-returns-else-degree-ne2 c = rings_ring c.in-Ring.is (sym c.degree-in-Ring.ensures ∙ c.if-degree-ne2.false)
+pub returns-in-Ring : goal.returns-in-Ring
+returns-in-Ring c =
+    rings_ring c.in-Ring.is (sym c.degree-then-u-lt-CELLS-2.ensures ∙ c.if-degree-eq2.true)

@@ -1,33 +1,18 @@
--- `check_pairing` answers refusal 9, or the count.
-use mathlib.Core.Path.{◌≡◌, sym, ◌∙◌}
-use mathlib.Core.Bool.{false}
-use Rattle.cellfile.specs.Files.{pairing}
-use Rattle.checks.specs.Refusals.{misheaded}
-use Rattle.cellfile.proofs.Outputs.{plain_pairing}
-use Rattle.checks.proofs.Parts.{head_whole, pairing_head, pairing_rest, row_holds, row_fails}
+-- `check_pairing` answers refusal 9: the header's, or else the pairs'.
+use Rattle.std.proofs.Common.{sym, ◌∙◌}
+use Rattle.checks.proofs.Parts.{pairing_headed, pairing_found}
 use Rattle.checks.proofs.check_pairing.Goals as goal
-use Rattle.checks.proofs.check_pairing.Goals.{Else-wrong_head}
 
--- the header is right
-headed : (c : Else-wrong_head) → misheaded pairing c.args.n c.args.pairing.now ≡ false
-headed c = sym (c.wrong_head.ensures pairing plain_pairing) ∙ c.if-wrong_head.false
+pub returns-in_default-clause-refusal : goal.returns-in_default-clause-refusal
+returns-in_default-clause-refusal c = let a = c.args in
+    rw (pairing_headed a.n a.pairing.now c.in_default.ensures)
 
-pub returns-then-wrong_head : goal.returns-then-wrong_head
-returns-then-wrong_head c = row_holds 8 _ (pairing_head _ _ (sym (c.wrong_head.ensures pairing plain_pairing)
-    ∙ c.if-wrong_head.true))
+pub returns-then-has_bad_pair-clause-refusal : goal.returns-then-has_bad_pair-clause-refusal
+returns-then-has_bad_pair-clause-refusal c = let a = c.args in
+    let h = c.in-Some.ensures in
+    rw (sym (pairing_found a.n a.pairing.now h.1 h.0 c.has_bad_pair.ensures) ∙ c.if-has_bad_pair.true)
 
-pub bad_pairs-requires : goal.bad_pairs-requires
-bad_pairs-requires c =
-    head_whole pairing _ _ _ c.header_at-h.ensures (headed (goal.at.bad_pairs-requires c).Else-wrong_head)
-
-pub returns-then-bad_pairs : goal.returns-then-bad_pairs
-returns-then-bad_pairs c =
-    row_holds 8 _
-    (pairing_rest _ _ (headed (goal.at.returns-then-bad_pairs c).Else-wrong_head)
-    ∙ sym c.bad_pairs.ensures ∙ c.if-bad_pairs.true)
-
-pub returns : goal.returns
-returns c =
-    row_fails 9 _ _ _ c.header_at-h.ensures
-    (pairing_rest _ _ (headed (goal.at.returns c).Else-wrong_head)
-    ∙ sym c.bad_pairs.ensures ∙ c.if-bad_pairs.false)
+pub returns-clause-refusal : goal.returns-clause-refusal
+returns-clause-refusal c = let a = c.args in
+    let h = c.in-Some.ensures in
+    rw (sym (pairing_found a.n a.pairing.now h.1 h.0 c.has_bad_pair.ensures) ∙ c.if-has_bad_pair.false)

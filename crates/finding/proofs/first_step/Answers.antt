@@ -1,25 +1,24 @@
 -- `first_step` scans rule by rule; it leaves out the cells below `low` for leaves, those below `rings` for rings.
+use Rattle.std.specs.Prelude.{Some, None}
 use Rattle.matching.specs.Steps.{by_ring}
 use Rattle.finding.proofs.Scans.{from_low, from_bound, first_leaf, first_ring, first_chain}
 use Rattle.finding.proofs.first_step.Goals as goal
 
-pub returns-in_default : goal.returns-in_default
-returns-in_default c = first_leaf c.args.e c.args.w1.now c.args.n c.requires.2 c.requires.1
-    (from_low c.requires.0 c.args.low c.args.n c.requires.3 c.scan-leaf.ensures) c.in_default.not-None
+pub returns-in-Some : goal.returns-in-Some
+returns-in-Some c = let a = c.args in
+    let r = c.requires in
+    first_leaf _ _ a.n r.1 r.0 (from_low a.graph.now.holds a.low a.n r.2 (Some c.in-Some.leaf) c.in-Some.ensures)
 
-pub returns-in_default-step : goal.returns-in_default-step
-returns-in_default-step c = let leaves = c.scan-leaf.ensures in
-    first_ring c.args.e c.args.w1.now c.args.n c.requires.2 c.requires.1
-    (from_low c.requires.0 c.args.low c.args.n c.requires.3 leaves)
-    c.in-None.is
-    (from_bound c.requires.0 by_ring c.args.rings c.args.n c.requires.4 c.scan-ring.ensures)
-    c.in_default-step.not-None
+pub returns-in-Some-scan : goal.returns-in-Some-scan
+returns-in-Some-scan c = let a = c.args in
+    let r = c.requires in
+    let h = a.graph.now.holds in
+    first_ring _ _ a.n r.1 r.0 (from_low h a.low a.n r.2 None c.in_default.ensures)
+    (from_bound h by_ring a.rings a.n r.3 (Some c.in-Some-scan.ring) c.in-Some-scan.ensures)
 
 pub returns : goal.returns
-returns c = let leaves = c.scan-leaf.ensures in
-    first_chain c.args.e c.args.w1.now c.args.n c.requires.2 c.requires.1
-    (from_low c.requires.0 c.args.low c.args.n c.requires.3 leaves)
-    c.in-None.is
-    (from_bound c.requires.0 by_ring c.args.rings c.args.n c.requires.4
-    c.scan-ring.ensures)
-    c.in-None-step.is c.scan.ensures
+returns c = let a = c.args in
+    let r = c.requires in
+    let h = a.graph.now.holds in
+    first_chain _ _ a.n r.1 r.0 (from_low h a.low a.n r.2 None c.in_default.ensures)
+    (from_bound h by_ring a.rings a.n r.3 None c.in_default-scan.ensures) _ c.scan-3.ensures

@@ -1,22 +1,23 @@
 -- `scan` goes over the cells, and at each over its slots. Invariant of the cells: none before c has a step; of the
--- slots of c: none from i on shows one.
-use mathlib.Core.Path.{◌≡◌}
-use mathlib.Core.List.{[]}
-use Prim.Native.Nat.{◌-◌}
-use Rattle.finding.specs.Finding.{told, Unmet}
-use Rattle.cellfile.specs.Files.{rule_named}
+-- slots of c: none behind `next` shows one; and so none is found yet.
+use Rattle.std.specs.Prelude.{◌≡◌, None}
+use Rattle.cellfile.specs.Kinds.{as_rule}
+use Rattle.slots.specs.Slots.{name_of}
+use Rattle.finding.specs.Finding.{Unmet}
 use Rattle.finding.proofs.Scans.{Barren}
 use Rattle.finding.proofs.scan.Given as goal
 
-abbrev pub invariant-slots : goal.invariant-slots
-invariant-slots l = Unmet l.e l.w1 (rule_named l.rule) l.c l.i × (told l.found.step ≡ (0, []))
+abbrev pub invariant-loop-next : goal.invariant-loop-next
+invariant-loop-next l = record {
+  unmet : Unmet l.graph.slots l.graph.w1.now (as_rule l.rule) l.c (name_of l.next);
+  none : l.found ≡ None;
+}
 
-abbrev pub decreases-slots : goal.decreases-slots
-decreases-slots l = l.i
+abbrev pub decreases-loop-next : goal.decreases-loop-next
+decreases-loop-next l = name_of l.next
 
 abbrev pub invariant-search : goal.invariant-search
-invariant-search l =
-    Barren l.e l.w1 (rule_named l.rule) l.from l.c × (told l.found.step ≡ (0, []))
-
-abbrev pub decreases-search : goal.decreases-search
-decreases-search l = l.to - l.c
+invariant-search l = record {
+  barren : Barren l.graph.slots l.graph.w1.now (as_rule l.rule) l.from l.c;
+  none : l.found ≡ None;
+}

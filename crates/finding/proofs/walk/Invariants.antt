@@ -1,10 +1,7 @@
 -- `walk` goes on while it may. Invariant: the rest of the walk from here ends the whole walk.
+use Prim.Native.Nat.{◌-◌}
 use Rattle.finding.proofs.Walks.{Walking}
 use Rattle.finding.proofs.walk.Given as goal
 
-abbrev pub invariant-loop-left : goal.invariant-loop-left
-invariant-loop-left l =
-    Walking l.e l.w1 l.low l.from l.at l.last l.end l.slot l.left
-
-abbrev pub decreases-loop-left : goal.decreases-loop-left
-decreases-loop-left l = l.left
+abbrev pub invariant-loop : goal.invariant-loop
+invariant-loop l = Walking l.graph.slots l.graph.w1.now l.low l.fn.from l.at (1024 - l.counter)

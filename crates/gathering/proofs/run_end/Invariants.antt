@@ -1,10 +1,6 @@
 -- `run_end` goes over the rows from i on. Invariant: those before j have the lower cell a.
-use Prim.Native.Nat.{◌-◌, ◌≤◌}
 use Rattle.gathering.proofs.Runs.{Owned}
 use Rattle.gathering.proofs.run_end.Given as goal
 
 abbrev pub invariant-loop-j : goal.invariant-loop-j
-invariant-loop-j l = (l.i ≤ l.j) × (l.j ≤ l.r) × Owned l.i l.j l.a l.w1
-
-abbrev pub decreases-loop-j : goal.decreases-loop-j
-decreases-loop-j l = l.r - l.j
+invariant-loop-j l = Owned l.i l.j l.a l.w1

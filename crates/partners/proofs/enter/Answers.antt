@@ -1,18 +1,44 @@
--- `enter` by whether a pair is missing.
-use Rattle.partners.proofs.Entering.{file_whole, enter_missing, enter_filled}
+-- `enter` by whether a pair is missing, and whether a cell stands twice.
+use Rattle.std.proofs.Common.{refl, arith}
+use Rattle.slots.proofs.Holding.{holds_kept}
+use Rattle.partners.proofs.Entering.{missing_is, filled_is}
 use Rattle.partners.proofs.enter.Goals as goal
 
-pub missing-requires : goal.missing-requires
-missing-requires c =
-    let p = c.requires.1 in (file_whole p, p.holds)
+pub returns-then-is_missing : goal.returns-then-is_missing
+returns-then-is_missing c = record {
+  refusal = rw (missing_is _ _ c.is_missing.ensures c.if-is_missing.true);
+  mates = tt;
+  aside = λ j l. refl;
+  slots = refl;
+  first_kept = refl;
+  buffers = record { first = refl; second = refl };
+}
 
-pub returns-then-missing : goal.returns-then-missing
-returns-then-missing c = enter_missing c.missing.ensures c.if-missing.true
+pub invariant_of-graph : goal.invariant_of-graph
+invariant_of-graph c = let g = c.args.graph.now in
+    record {
+      holds = holds_kept g.holds _ (omega (arith, g.holds.room2, c.enter_pairs.auto.w2))
+          (λ j a b. c.enter_pairs.ensures.aside j (omega arith));
+    }
 
-pub enter_pairs-requires : goal.enter_pairs-requires
-enter_pairs-requires c =
-    let p = c.requires.1 in
-    (file_whole p, p.holds.room2)
+pub returns-then-enter_pairs : goal.returns-then-enter_pairs
+returns-then-enter_pairs c = record {
+  refusal = rw (filled_is _ _ c.is_missing.ensures c.if-is_missing.false
+      (rw c.if-enter_pairs.true at c.enter_pairs.ensures.answer));
+  mates = tt;
+  aside = c.enter_pairs.ensures.aside;
+  slots = refl;
+  first_kept = refl;
+  buffers = record { first = refl; second = refl };
+}
 
 pub returns : goal.returns
-returns c = enter_filled c.missing.ensures c.if-missing.false c.enter_pairs.ensures
+returns c = record {
+  refusal = rw (filled_is _ _ c.is_missing.ensures c.if-is_missing.false
+      (rw c.if-enter_pairs.false at c.enter_pairs.ensures.answer));
+  mates = c.enter_pairs.ensures.mates c.if-enter_pairs.false;
+  aside = c.enter_pairs.ensures.aside;
+  slots = refl;
+  first_kept = refl;
+  buffers = record { first = refl; second = refl };
+}

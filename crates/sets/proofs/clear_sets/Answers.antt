@@ -12,10 +12,10 @@ pub overflow_add-end : goal.overflow_add-end
 overflow_add-end c = let m : 2 ^ c.args.k ≤ 2 ^ 12 = pow_mono c.requires.1 in
     omega (arith, one_shifted c.args.k c.requires.1, m)
 
-pub slice_bounds-clear-end : goal.slice_bounds-clear-end
-slice_bounds-clear-end c = let m : 2 ^ c.args.k ≤ 2 ^ 12 = pow_mono c.requires.1 in
+pub slice_bounds-fill-end : goal.slice_bounds-fill-end
+slice_bounds-fill-end c = let m : 2 ^ c.args.k ≤ 2 ^ 12 = pow_mono c.requires.1 in
     omega (arith, one_shifted c.args.k c.requires.1, m, c.requires.0)
 
 pub returns : goal.returns
 returns c = part_cleared c.args.w1.now _ c.args.k _ c.requires.0 c.requires.1
-    (ap (λ n. at_sets + n) (one_shifted c.args.k c.requires.1)) c.clear.ensures
+    (ap (λ n. at_sets + n) (one_shifted c.args.k c.requires.1)) (c.fill.ensures.after (λ y e. e))

@@ -1,63 +1,50 @@
 -- `solve_groups` goes over the cells.
-use mathlib.Core.Path.{refl, ◌∙◌}
-use Prim.Native.Nat.{◌+◌}
 use native.Mathlib.Omega.{arith}
-use Rattle.matching.specs.Pairs.{Points}
-use Rattle.grouping.specs.Labels.{Labels}
-use Rattle.solving.specs.Joined.{GroupsThere}
-use Rattle.solving.proofs.Groups.{Solving, solving_none, solving_first, solving_crowded, solving_group}
+use Rattle.solving.proofs.Groups.{names_own, names_other, solving_first, solving_group}
 use Rattle.solving.proofs.Groups.{solving_skip, solving_room, solving_end}
 use Rattle.solving.proofs.solve_groups.Goals as goal
-use Rattle.solving.proofs.solve_groups.Goals.{In-Points}
-
--- what stands after a group
-next : (c : In-Points) (w : Points) (l : Labels) → GroupsThere c.args.n w l 0 c.args.w1.now c.args.w2.now
-    → Solving c.args.n w l (c.loop-d.d + 1) c.args.w2.now c.solve_group.new.w1 c.solve_group.new.w2
-    (c.loop-d.points + c.in-Points.more)
-next c w l p =
-    let h = c.loop-d.invariant.2 w l p in
-    let low = c.loop-d-test.true in
-    solving_group h c.in-Points.is low
-    (c.solve_group.ensures _ w l h.there low (solving_first h low c.if-w2-at.true))
-
-pub loop-d-init : goal.loop-d-init
-loop-d-init c = (refl, refl, λ w l p. solving_none p)
+use Rattle.solving.proofs.solve_groups.Goals.{then-eq+in_ok-points, else-eq}
 
 pub solve_group-requires : goal.solve_group-requires
 solve_group-requires c =
     let p = c.requires in
-    let h = c.loop-d.invariant.2 p.0 p.1 p.2 in (
+    let h = c.loop-d.invariant p.0 p.1 p.2 in
+    let t = c.loop-d-test.true in (
       c.args.n,
       p.0,
       p.1,
       h.there,
-      c.loop-d-test.true,
-      solving_first h c.loop-d-test.true c.if-w2-at.true,
+      t,
+      solving_first h t (names_own _ _ c.first.ensures c.if-eq.ensures),
     )
 
-pub returns-in_default : goal.returns-in_default
-returns-in_default c =
-    let low = c.loop-d-test.true in
+pub returns-in_err-points : goal.returns-in_err-points
+returns-in_err-points c =
+    let t = c.loop-d-test.true in
     λ w l p.
-    let h = c.loop-d.invariant.2 w l p in
-    solving_crowded h c.solve_group.new.w1 c.solve_group.new.w2 c.in_default.is
-    (c.solve_group.ensures _ w l h.there low (solving_first h low c.if-w2-at.true))
+    let h = c.loop-d.invariant w l p in
+    let o = solving_first h t (names_own _ _ c.first.ensures c.if-eq.ensures) in
+    rw c.from_residual.ensures (c.in_err-points.ensures _ w l h.there t o)
 
 pub overflow_add-points : goal.overflow_add-points
 overflow_add-points c =
     let p = c.requires in
-    omega (arith, solving_room (next (goal.at.overflow_add-points c).In-Points p.0 p.1 p.2))
-
-pub loop-d-preserved-then-w2-at : goal.loop-d-preserved-then-w2-at
-loop-d-preserved-then-w2-at c =
-    let k = c.solve_group.auto in
-    let v = c.loop-d.invariant in
-    (k.w1 ∙ v.0, k.w2 ∙ v.1, next (goal.at.loop-d-preserved-then-w2-at c).In-Points)
+    let h = c.loop-d.invariant p.0 p.1 p.2 in
+    let t = c.loop-d-test.true in
+    let o = solving_first h t (names_own _ _ c.first.ensures c.if-eq.ensures) in
+    omega (arith, solving_room (solving_group h t (c.in_ok-points.ensures _ p.0 p.1 h.there t o)))
 
 pub loop-d-preserved : goal.loop-d-preserved
 loop-d-preserved c =
-    let v = c.loop-d.invariant in
-    (v.0, v.1, λ w l p. solving_skip (v.2 w l p) c.loop-d-test.true c.if-w2-at.false)
+    let t = c.loop-d-test.true in
+    elim c.if-eq.branch [
+      | then-eq+in_ok-points w ↦ rw (w.w1-is, w.w2-is, w.points-is) (λ v l p.
+          let h = c.loop-d.invariant v l p in
+          let o = solving_first h t (names_own _ _ c.first.ensures w.if-eq.ensures) in
+          solving_group h t (w.in_ok-points.ensures _ v l h.there t o))
+      | else-eq w ↦ rw (w.w1-is, w.w2-is, w.points-is) (λ v l p.
+          solving_skip (c.loop-d.invariant v l p) t (names_other _ _ c.first.ensures w.if-eq.ensures))
+    ]
 
 pub returns : goal.returns
-returns c = λ w l p. solving_end (c.loop-d.invariant.2 w l p) c.loop-d-test.false
+returns c = λ w l p. solving_end (c.loop-d.invariant w l p) c.loop-d-test.false

@@ -1,8 +1,5 @@
 -- `solve_groups` goes over the cells. Invariant: the groups whose first cells are below d are solved and joined, and
 -- have so many points.
-use mathlib.Core.Path.{◌≡◌}
-use Prim.Native.Nat.{◌-◌}
-use lib.ListN.{length}
 use Rattle.matching.specs.Pairs.{Points}
 use Rattle.grouping.specs.Labels.{Labels}
 use Rattle.solving.specs.Joined.{GroupsThere}
@@ -11,9 +8,5 @@ use Rattle.solving.proofs.solve_groups.Given as goal
 
 abbrev pub invariant-loop-d : goal.invariant-loop-d
 invariant-loop-d l =
-    (length l.w1 ≡ length l.initial.w1) × (length l.w2 ≡ length l.initial.w2)
-    × ((w : Points) (by : Labels) → GroupsThere l.n w by 0 l.initial.w1 l.initial.w2
-    → Solving l.n w by l.d l.initial.w2 l.w1 l.w2 l.points)
-
-abbrev pub decreases-loop-d : goal.decreases-loop-d
-decreases-loop-d l = l.n - l.d
+    (w : Points) (by : Labels) → GroupsThere l.n w by 0 l.initial.w1 l.initial.w2
+    → Solving l.n w by l.d l.initial.w2 l.w1 l.w2 l.points

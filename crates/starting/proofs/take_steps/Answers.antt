@@ -1,32 +1,16 @@
--- `take_steps` hands on what the loop answers.
-use mathlib.Core.Path.{subst}
-use Rattle.running.specs.Running.{Runs}
+-- `take_steps` clears the second buffer, which then holds the empty graph, loads the list, and hands on what the loop
+-- answers.
+use Rattle.slots.proofs.Graphs.{holds_empty}
 use Rattle.starting.proofs.OnList.{run_asked}
-use Rattle.starting.proofs.Starts.{takes_refused, takes_done}
+use Rattle.starting.proofs.Starts.{named_few}
 use Rattle.starting.proofs.take_steps.Goals as goal
 
+pub invariant_of-graph : goal.invariant_of-graph
+invariant_of-graph c =
+    record { holds = (holds_empty _ _ _ c.requires.0 c.requires.1 c.clear.ensures).0 }
+
 pub run-requires : goal.run-requires
-run-requires c = let p =
-    c.requires in
-    let l = c.load_list-e.ensures in
-    (l.holds, run_asked _ p.0.accepted p.1 l p.2 p.3 p.4)
-
-pub returns-in-Refused : goal.returns-in-Refused
-returns-in-Refused c = let p =
-    c.requires in
-    let a =
-    c.args in
-    let d =
-    subst (Runs _ _ _ _ _ _ _ _) c.in-Refused.is
-    c.run.ensures in
-    takes_refused a.list.now a.slip.now p.1 c.load_list-e.ensures a.k a.more _ _ d.0 d.1
-
-pub returns-in-Done : goal.returns-in-Done
-returns-in-Done c = let p =
-    c.requires in
-    let a =
-    c.args in
-    let d =
-    subst (Runs _ _ _ _ _ _ _ _) c.in-Done.is
-    c.run.ensures in
-    takes_done a.list.now a.slip.now p.1 c.load_list-e.ensures a.k a.more p.0.accepted d
+run-requires c =
+    let list = c.args.list.now in
+    run_asked _ list.accepted list.entries.cells c.load.ensures.graph (named_few c.args.slip (λ r. r.now.file.now))
+    c.requires.2

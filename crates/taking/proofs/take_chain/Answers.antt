@@ -1,56 +1,39 @@
 -- `take_chain` takes the chain's row, reads its points from the trail, puts the three pairs and stores the closing
 -- word.
-use mathlib.Core.Path.{refl, ◌∙◌}
+use mathlib.Core.Path.{refl}
 use native.Mathlib.Omega.{arith}
-use Prim.Native.Nat.{◌+◌}
-use lib.ListN.{length-set}
-use Rattle.slots.proofs.Holding.{holds_room}
 use Rattle.taking.proofs.Applied.{row_many, chain_row, chain_read, chain_less, chain_ends, chain_closing}
 use Rattle.taking.proofs.Applied.{chain_taken}
 use Rattle.taking.proofs.take_chain.Goals as goal
 
-pub clear_row-cleared-requires : goal.clear_row-cleared-requires
-clear_row-cleared-requires c = chain_row c.requires
+pub clear_row-pairs-requires : goal.clear_row-pairs-requires
+clear_row-pairs-requires c = chain_row c.requires
 
-pub chain_points-points-requires : goal.chain_points-points-requires
-chain_points-points-requires c = row_many (chain_row c.requires) c.clear_row-cleared.ensures
+pub row_on_trail-requires : goal.row_on_trail-requires
+row_on_trail-requires c = row_many (chain_row c.requires) c.clear_row-pairs.ensures
 
-pub overflow_sub-points : goal.overflow_sub-points
-overflow_sub-points c = let h = c.requires in
-    omega (arith, chain_less (chain_read h c.clear_row-cleared.ensures c.chain_points-points.ensures))
+pub overflow_sub-ends : goal.overflow_sub-ends
+overflow_sub-ends c =
+    let h = chain_read c.requires c.clear_row-pairs.ensures c.row_on_trail.ensures c.chain_points-points.ensures in
+    omega (arith, chain_less h)
 
-pub overflow_sub-points-2 : goal.overflow_sub-points-2
-overflow_sub-points-2 c = let h = c.requires in
-    omega (arith, chain_less (chain_read h c.clear_row-cleared.ensures c.chain_points-points.ensures))
+pub overflow_sub-ends-2 : goal.overflow_sub-ends-2
+overflow_sub-ends-2 c =
+    let h = chain_read c.requires c.clear_row-pairs.ensures c.row_on_trail.ensures c.chain_points-points.ensures in
+    omega (arith, chain_less h)
 
-pub overflow_sub-points-3 : goal.overflow_sub-points-3
-overflow_sub-points-3 c = let h = c.requires in
-    omega (arith, chain_less (chain_read h c.clear_row-cleared.ensures c.chain_points-points.ensures))
+pub overflow_sub-ends-3 : goal.overflow_sub-ends-3
+overflow_sub-ends-3 c =
+    let h = chain_read c.requires c.clear_row-pairs.ensures c.row_on_trail.ensures c.chain_points-points.ensures in
+    omega (arith, chain_less h)
 
-pub put_ends-raised-requires : goal.put_ends-raised-requires
-put_ends-raised-requires c = chain_ends c.requires c.clear_row-cleared.ensures
+pub put_ends-more-requires : goal.put_ends-more-requires
+put_ends-more-requires c = chain_ends c.requires c.clear_row-pairs.ensures _ _ _
 
 pub closing_word-requires : goal.closing_word-requires
-closing_word-requires c = chain_closing c.requires c.clear_row-cleared.ensures c.put_ends-raised.ensures
-
-pub offset_bounds-w2-end : goal.offset_bounds-w2-end
-offset_bounds-w2-end c = omega (arith, c.clear_row-cleared.ensures.count, c.requires.room)
-
-pub bounds-w2-end : goal.bounds-w2-end
-bounds-w2-end c = let h = c.requires in
-    omega (arith, c.clear_row-cleared.ensures.count, h.room, (holds_room c.put_ends-raised.ensures.changed.holds).1)
-
-pub overflow_add-result : goal.overflow_add-result
-overflow_add-result c = omega (arith, c.clear_row-cleared.ensures.count, c.requires.room)
-
-pub shape_of-w2 : goal.shape_of-w2
-shape_of-w2 c = let t = c.args.t in
-    length-set c.put_ends-raised.new.w2 (t + c.clear_row-cleared.result.pairs) c.closing_word.result
-    ∙ c.put_ends-raised.auto.w2
-    ∙ c.clear_row-cleared.auto.w2
+closing_word-requires c = chain_closing c.requires c.clear_row-pairs.ensures
 
 pub returns : goal.returns
-returns c = let h = c.requires in
-    chain_taken h c.clear_row-cleared.ensures c.put_ends-raised.ensures
-    (chain_read h c.clear_row-cleared.ensures c.chain_points-points.ensures) (omega arith) (omega arith) (omega arith)
-    refl refl (omega arith) c.put_ends-raised.auto.w2 c.closing_word.ensures
+returns c = let g = c.clear_row-pairs.ensures in
+    chain_taken c.requires g _ _ _ (chain_read c.requires g c.row_on_trail.ensures c.chain_points-points.ensures)
+    refl refl refl c.put_ends-more.ensures c.set_word.ensures c.closing_word.ensures refl refl

@@ -7,35 +7,6 @@ use Rattle.undoing.proofs.put_marked.Goals as goal
 pub loop-j-init : goal.loop-j-init
 loop-j-init c p = put_none p
 
-pub overflow_add-a : goal.overflow_add-a
-overflow_add-a c =
-    let p = c.requires in
-    let h = c.loop-j.invariant p in
-    omega (arith, h.most, p.on_trail)
-
-pub offset_bounds-w2-a : goal.offset_bounds-w2-a
-offset_bounds-w2-a c =
-    let p = c.requires in
-    let h = c.loop-j.invariant p in
-    omega (arith, h.most, p.on_trail)
-
-pub bounds-w2-a : goal.bounds-w2-a
-bounds-w2-a c =
-    let p = c.requires in
-    let h = c.loop-j.invariant p in
-    omega (arith, c.loop-j-test.true, h.most, h.same, p.on_trail, p.room2)
-
-pub offset_bounds-marks-j : goal.offset_bounds-marks-j
-offset_bounds-marks-j c =
-    let p = c.requires in
-    let h = c.loop-j.invariant p in
-    omega (arith, h.most, p.on_trail)
-
-pub bounds-marks-j : goal.bounds-marks-j
-bounds-marks-j c =
-    let h = c.loop-j.invariant c.requires in
-    omega (arith, c.loop-j-test.true, h.most)
-
 pub join_marked-requires : goal.join_marked-requires
 join_marked-requires c =
     let p = c.requires in

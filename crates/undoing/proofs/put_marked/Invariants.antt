@@ -6,6 +6,3 @@ use Rattle.undoing.proofs.put_marked.Given as goal
 
 abbrev pub invariant-loop-j : goal.invariant-loop-j
 invariant-loop-j l = (p : PutThere l.a l.v l.stamp l.marks l.initial.w2) → Putting p l.j l.to l.w2
-
-abbrev pub decreases-loop-j : goal.decreases-loop-j
-decreases-loop-j l = l.j

@@ -1,11 +1,12 @@
 -- `shown` answers the count of a list that the check accepts, and 0 of one that it refuses.
-use mathlib.Core.Path.{sym, ap, ◌∙◌}
-use Rattle.checks.specs.Checking.{checked}
+use Rattle.std.proofs.Common.{◌∙◌, ap}
+use Rattle.cellfile.specs.Files.{count_of}
 use Rattle.view.proofs.Serves.{shown_refused, shown_accepted}
 use Rattle.view.proofs.shown.Goals as goal
 
-pub returns-in-Refused : goal.returns-in-Refused
-returns-in-Refused c = shown_refused _ (ap checked (sym c.in-Refused.is) ∙ c.check_list.ensures)
+pub returns-in-Ok : goal.returns-in-Ok
+returns-in-Ok c = let e = c.in-Ok in
+    shown_accepted c.args.list.now e.ensures.refusal (e.accepted.entries.whole.count ∙ ap count_of e.ensures.list)
 
-pub returns-in-Accepted : goal.returns-in-Accepted
-returns-in-Accepted c = shown_accepted _ (ap checked (sym c.in-Accepted.is) ∙ c.check_list.ensures)
+pub returns-in-Err : goal.returns-in-Err
+returns-in-Err c = shown_refused c.args.list.now _ c.in-Err.ensures.refusal

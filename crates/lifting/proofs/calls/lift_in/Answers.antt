@@ -1,29 +1,14 @@
 -- `lift_in` answers what the start refuses, or what `lift_tail` answers.
-use mathlib.Core.Path.{refl, subst}
-use mathlib.Core.List.{[], ◌∷◌, ◌++◌}
-use Rattle.checks.specs.Calls.{call_rows}
-use Rattle.starting.specs.Steps.{slip_rows}
-use Rattle.starting.specs.Starting.{Starts}
-use Rattle.checks.proofs.Answering.{refused}
-use Rattle.starting.proofs.Starts.{started, not_started}
+use Rattle.buffers.specs.Buffers.{lent}
+use Rattle.checks.specs.Refusals.{too_few_words}
 use Rattle.lifting.proofs.Lifting.{start_there, lift_passed}
 use Rattle.lifting.proofs.calls.lift_in.Goals as goal
 
-pub start_slip-requires : goal.start_slip-requires
-start_slip-requires c = c.requires
-
 pub lift_tail-requires : goal.lift_tail-requires
-lift_tail-requires c = let a = c.args in
-    let d = subst (Starts _ _ _ _ _) c.in-Done.is c.start_slip.ensures.starts in
-    start_there a.list.now a.slip.now (started _ _ _ _ _ _ _ _ _ _ d).1
+lift_tail-requires c = start_there c.args.list.now c.args.slip.now c.in_ok-at.ensures.starts.1
 
-pub returns-in-Refused : goal.returns-in-Refused
-returns-in-Refused c = let a = c.args in
-    let d = subst (Starts _ _ _ _ _) c.in-Refused.is c.start_slip.ensures.starts in
-    refused (call_rows a.few a.list.now ++ slip_rows a.list.now a.slip.now) (_ ∷ _ ∷ []) 0 []
-    (not_started _ _ _ _ _ _ d) (refl, (refl, tt))
-
-pub returns-in-Done : goal.returns-in-Done
-returns-in-Done c = let a = c.args in
-    let d = started _ _ _ _ _ _ _ _ _ _ (subst (Starts _ _ _ _ _) c.in-Done.is c.start_slip.ensures.starts) in
-    lift_passed a.list.now a.slip.now d.1 a.few d.0 a.pairing.now c.lift_tail.ensures
+pub returns : goal.returns
+returns c =
+    let a = c.args in
+    let s = c.in_ok-at.ensures.starts in
+    lift_passed a.list.now a.slip.now s.1 (too_few_words (lent a.w1.now a.w2.now)) s.0 a.pairing.now c.lift_tail.ensures

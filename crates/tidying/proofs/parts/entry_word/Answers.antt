@@ -3,10 +3,6 @@ use Rattle.std.proofs.Common.{arith}
 use Rattle.cellfile.specs.Fields.{packed}
 use Rattle.tidying.proofs.parts.entry_word.Goals as goal
 
-pub returns-then-y-x : goal.returns-then-y-x
-unfolding packed
-returns-then-y-x c = omega arith
-
 pub returns : goal.returns
 unfolding packed
 returns c = omega arith

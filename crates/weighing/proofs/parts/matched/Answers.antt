@@ -1,37 +1,37 @@
 -- `matched` looks each pair up behind the one before it.
-use Prim.Native.Nat.{◌<◌}
-use mathlib.Core.Path.{sym, ◌∙◌}
-use native.Mathlib.Omega.{arith}
+use Rattle.std.proofs.Common.{◌<◌, ◌∙◌, sym, arith}
 use Rattle.cellfile.specs.Files.{count_of}
 use Rattle.checks.proofs.Accepted.{count_fits}
 use Rattle.weighing.proofs.Matched.{merged_end, merged_out, merged_next}
 use Rattle.weighing.proofs.parts.matched.Goals as goal
+use Rattle.weighing.proofs.parts.matched.Goals.{In-loop-j}
 
-pub returns-then-not-found : goal.returns-then-not-found
-returns-then-not-found c =
-    let below : c.loop-j.j < count_of c.args.pairing.now = omega (arith, c.requires.1.count) in
-    sym (c.loop-j.invariant.3
-    ∙ merged_out _ _ c.loop-j.i c.loop-j.j c.loop-j.points below _ c.pairing_pair-p.ensures _
-    c.seek-found.ensures c.if-not-found.true)
+below : (c : In-loop-j) → c.loop-j.j < count_of c.args.pairs.now.file.now
+below c = omega (arith, c.args.pairs.now.whole.count)
 
-pub overflow_add-points : goal.overflow_add-points
-overflow_add-points c =
-    let below : c.loop-j.j < count_of c.args.pairing.now = omega (arith, c.requires.1.count) in
-    let few = count_fits c.args.pairing.now in
-    omega (arith, c.loop-j.invariant, c.seek-found.ensures.points_fit, below)
+pub returns-in_default : goal.returns-in_default
+returns-in_default c =
+    let l = c.loop-j in
+    let b = below (goal.at.returns-in_default c).In-loop-j in
+    sym (l.invariant.rest ∙ merged_out _ _ l.from l.j l.sum b _ c.get-p.ensures c.in_default.ensures)
+
+pub overflow_add-sum : goal.overflow_add-sum
+overflow_add-sum c =
+    let b = below (goal.at.overflow_add-sum c).In-loop-j in
+    omega (arith, c.loop-j.invariant.fits, c.in-Some.ensures.fits.0, b, count_fits c.args.pairs.now.file.now)
 
 pub loop-j-preserved : goal.loop-j-preserved
 loop-j-preserved c =
-    let below : c.loop-j.j < count_of c.args.pairing.now = omega (arith, c.requires.1.count) in (
-      omega (arith, c.seek-found.ensures.next_fits, c.requires.0.count),
-      omega arith,
-      omega (arith, c.loop-j.invariant, c.seek-found.ensures.points_fit),
-      c.loop-j.invariant.3
-          ∙ merged_next _ _ c.loop-j.i c.loop-j.j c.loop-j.points below _
-          c.pairing_pair-p.ensures _ c.seek-found.ensures c.if-not-found.false,
-    )
+    let l = c.loop-j in
+    let b = below (goal.at.loop-j-preserved c).In-loop-j in
+    let f = c.in-Some.ensures in record {
+      from_fits = omega (arith, f.fits.1, c.args.entries.now.whole.count);
+      fits = omega (arith, l.invariant.fits, f.fits.0);
+      rest = l.invariant.rest ∙ merged_next _ _ l.from l.j l.sum b _ c.get-p.ensures _ f;
+    }
 
 pub returns : goal.returns
 returns c =
-    let all = c.requires.1.count in
-    sym (c.loop-j.invariant.3 ∙ merged_end _ _ c.loop-j.i c.loop-j.j c.loop-j.points (omega arith))
+    let l = c.loop-j in
+    let all = c.args.pairs.now.whole.count in
+    sym (l.invariant.rest ∙ merged_end _ _ l.from l.j l.sum (omega (arith, all, c.loop-j-test.false)))

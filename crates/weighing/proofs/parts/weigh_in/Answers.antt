@@ -1,29 +1,29 @@
--- `weigh_in` answers the first of refusals 1 to 6, or what `weigh_list` answers.
-use mathlib.Core.Path.{◌≡◌, sym, ap, ◌∙◌}
-use mathlib.Core.Bool.{false}
-use Rattle.cellfile.specs.Files.{cells_of, count_of}
-use Rattle.checks.specs.Checking.{checked}
-use Rattle.checks.specs.Refusals.{first, lists, list_rows}
-use Rattle.checks.proofs.Accepted.{call_accepted}
-use Rattle.weighing.proofs.Weights.{call_refused, call_passed}
+-- `weigh_in` answers refusal 10, or the points.
+use Rattle.std.proofs.Common.{◌≡◌, [], ◌∷◌}
+use Rattle.buffers.specs.Buffers.{lent}
+use Rattle.cellfile.specs.Files.{cells_of}
+use Rattle.checks.specs.Refusals.{first}
+use Rattle.checks.specs.Calls.{form_row}
+use Rattle.weighing.proofs.Weights.{formed_of, pairs_twice, pairs_found, pairing_passed}
 use Rattle.weighing.proofs.parts.weigh_in.Goals as goal
+use Rattle.weighing.proofs.parts.weigh_in.Goals.{After-enter_pairs}
 
-pub weigh_list-requires : goal.weigh_list-requires
-weigh_list-requires c =
-    let a : (c.args.few ≡ false) × (first (list_rows lists c.args.list.now) ≡ 0)
-    × (c.in-Accepted.n ≡ cells_of c.args.list.now) × (c.in-Accepted.m ≡ count_of c.args.list.now) =
-    call_accepted _ _ (ap checked (sym c.in-Accepted.is) ∙ c.check_call.ensures) in
-    (a.1, a.2, a.3, c.requires a.0)
+-- refusal 9 is passed
+formed : (c : After-enter_pairs) → ◌≡◌ 0 (first (form_row (cells_of c.args.list.now) c.args.pairing.now ∷ []))
+formed c = rw (c.in_ok-list.list.entries.cells, c.in_ok-list.ensures.list) at c.in_ok-pairs.ensures.refusal
 
-pub returns-in-Refused : goal.returns-in-Refused
-returns-in-Refused c =
-    let a = c.args in
-    call_refused a.list.now a.pairing.now a.few
-    (ap checked (sym c.in-Refused.is) ∙ c.check_call.ensures)
+pub returns-then-enter_pairs : goal.returns-then-enter_pairs
+returns-then-enter_pairs c = let a = c.args in
+    let f = formed (goal.at.returns-then-enter_pairs c).After-enter_pairs in
+    pairing_passed a.list.now a.pairing.now (lent a.w1.now a.w2.now) c.in_ok-list.ensures.refusal f
+    (pairs_twice a.list.now a.pairing.now (rw c.in_ok-pairs.ensures.pairing at c.enter_pairs.ensures.answer)
+    c.if-enter_pairs.true)
 
-pub returns-in-Accepted : goal.returns-in-Accepted
-returns-in-Accepted c =
-    let a : (c.args.few ≡ false) × (first (list_rows lists c.args.list.now) ≡ 0)
-    × (c.in-Accepted.n ≡ cells_of c.args.list.now) × (c.in-Accepted.m ≡ count_of c.args.list.now) =
-    call_accepted _ _ (ap checked (sym c.in-Accepted.is) ∙ c.check_call.ensures) in
-    call_passed _ _ c.args.few a.0 a.1 c.weigh_list.ensures
+pub returns : goal.returns
+returns c = let a = c.args in
+    let f = formed (goal.at.returns c).After-enter_pairs in
+    let l = c.in_ok-list in
+    pairing_passed a.list.now a.pairing.now (lent a.w1.now a.w2.now) l.ensures.refusal f
+    (pairs_found a.list.now a.pairing.now (rw l.ensures.list at l.list.accepted) (formed_of _ _ f)
+    (rw c.in_ok-pairs.ensures.pairing at c.enter_pairs.ensures.answer) c.if-enter_pairs.false
+    (rw (l.ensures.list, c.in_ok-pairs.ensures.pairing) at c.matched.ensures))

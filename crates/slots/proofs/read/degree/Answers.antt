@@ -1,6 +1,0 @@
--- `degree` reads the high bits of the sum of c, where each live slot of c has a one.
-use Rattle.slots.proofs.Degrees.{degree_of}
-use Rattle.slots.proofs.read.degree.Goals as goal
-
-pub returns : goal.returns
-returns c = degree_of c.requires.0 c.args.c c.requires.1

@@ -1,9 +1,0 @@
--- `start_reduce` answers what `begin_reduce` answers; `settle` clears the buffers after a refusal.
-use Rattle.starting.proofs.Starts.{settled, settled_clears}
-use Rattle.starting.proofs.start_reduce.Goals as goal
-
-pub returns : goal.returns
-returns c = record {
-  starts = settled _ _ _ _ _ _ _ _ c.begin_reduce-r.ensures c.settle.ensures;
-  cleared = settled_clears _ _ _ _ _ _ _ c.begin_reduce-r.auto.w1 c.begin_reduce-r.auto.w2 c.settle.ensures;
-}
