@@ -1,35 +1,24 @@
--- The layers that the calls with outputs share. In order: the work buffers (`enough_words`); an output that is kept is
--- right where the call is refused; what some rows refuse, and what they pass on to the rows after them (`refused`,
--- `passed`); refusal 12 (`no_room`, `all_room`; of one file `one_refused`, `one_written`); the whole call (`framed`).
--- Assumes nothing.
+-- The layers that the calls with outputs share. In order: an output that is kept is right where the call is refused;
+-- what some rows refuse, and what they pass on to the rows after them (`refused`, `passed`); refusal 12 (`no_room`,
+-- `all_room`; of one file `one_refused`, `one_written`). Assumes nothing.
 use mathlib.Core.Path.{◌≡◌, refl, sym, ap, ◌∙◌}
 use mathlib.Core.Bool.{Bool, true, false, ◌||◌}
 use mathlib.Core.List.{List, [], ◌∷◌, ◌++◌, append_assoc}
 use Prim.Native.Nat.{ℕ, zero, suc, ◌≤◌, ◌<◌}
 use native.Mathlib.Omega.{arith}
-use borrow.Author.Tests.{lt-ltb, le-ltb, ltb-false}
+use borrow.Author.Tests.{lt-ltb, le-ltb}
 use lib.Dec.{ltb}
 use lib.ListN.{length}
 use Rattle.matching.specs.Lists.{All}
 use Rattle.matching.proofs.Alls.{all_map}
 use Rattle.cellfile.specs.Files.{onto}
-use Rattle.checks.specs.Refusals.{Row, first, too_few_words, short_output}
+use Rattle.checks.specs.Refusals.{Row, first, short_output}
 use Rattle.cellfile.specs.Answers.{Answer, answer, written}
-use Rattle.buffers.specs.Buffers.{lent}
-use Rattle.checks.proofs.Rows.{or_none}
 use Rattle.checks.specs.Calls.{number}
 use Rattle.checks.specs.declared.Refusal.{Refusal}
 use Rattle.checks.proofs.Layers.{number_some, after_refused, after_passed, refusal_answers}
-use Rattle.checks.specs.Calls.{call_rows, room_row, filing, answering}
-use Rattle.checks.specs.Answering.{Output, lengths, rooms, Does, Enough}
-
--- ---- the work buffers
-
-pub enough_words : (w1 w2 : List ℕ) {few : Bool} → few ≡ too_few_words (lent w1 w2) → Enough few w1 w2
-unfolding too_few_words
-enough_words w1 w2 e f =
-    let h = or_none (ltb (length w1) 8192) _ (sym e ∙ f) in
-    (ltb-false (length w1) 8192 h.0, ltb-false (length w2) 8192 (or_none (ltb (length w2) 8192) _ h.1).0)
+use Rattle.checks.specs.Calls.{room_row}
+use Rattle.checks.specs.Answering.{Output, lengths, rooms, Does}
 
 -- ---- outputs that are kept
 
@@ -101,20 +90,3 @@ module _ (file out : List ℕ) {size : ℕ} (long : size ≡ length file) where
   pub one_written : {out' : List ℕ} → size ≤ length out → out' ≡ onto file out
       → Does [] ((file, out, out') ∷ []) (0, size ∷ [])
   one_written {out'} l e = rw long (all_room ((file, out, out') ∷ []) (omega arith, tt) (e, tt))
-
--- ---- the whole call
-
--- with refusal 1 found by the lengths of the work buffers lent, whichever rows follow it
-pub framed_rows : (lent : List ℕ) (rows : Bool → List Row) {few : Bool} {outs : List Output} {a : Answer}
-    → few ≡ too_few_words lent → Does (rows few) outs a
-    → (a ≡ filing (rows (too_few_words lent)) (rooms outs))
-    × All (λ (o : Output). o.2 ≡ written a.0 o.0 o.1) outs
-framed_rows lent rows {few} {outs} e d = (d.says ∙ ap (λ t. filing (rows t) (rooms outs)) e, d.writes)
-
--- a call on a list
-pub framed : (lent list : List ℕ) (own : List Row) {few : Bool} {outs : List Output} {a : Answer}
-    → few ≡ too_few_words lent
-    → Does (call_rows few list ++ own) outs a
-    → (a ≡ answering lent list own (rooms outs))
-    × All (λ (o : Output). o.2 ≡ written a.0 o.0 o.1) outs
-framed lent list own e d = framed_rows lent (λ few. call_rows few list ++ own) e d

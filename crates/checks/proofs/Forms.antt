@@ -6,11 +6,9 @@ use mathlib.Core.Logic.{◌≢◌}
 use mathlib.Core.Bool.{Bool, true, false, not, cond, ◌||◌}
 use mathlib.Core.List.{List, [], ◌∷◌, map}
 use native.Mathlib.Omega.{arith}
-use native.Mathlib.Numerals.{add-one}
-use lib.Dec.{leb}
 use lib.ListN.{drop, drop_of_length-le}
-use borrow.Author.Tests.{le-leb, lt-leb, ne_eqb}
-use Rattle.cellfile.specs.Files.{cells_of, count_of, key, entry_key, raw_list, entries_all}
+use borrow.Author.Tests.{lt-leb, ne_eqb}
+use Rattle.cellfile.specs.Files.{cells_of, count_of, entry_key, raw_list, entries_all}
 use Rattle.checks.specs.Refusals.{Row, ascending_from, first, is_no_list, is_too_large}
 use Rattle.checks.specs.Refusals.{wrong_length, stray_pair, stray_entry, unordered, loose_pair, is_bad_raw}
 use Rattle.checks.specs.Loops.{head_rows, entry_rows, some_from}
@@ -21,20 +19,6 @@ use Rattle.cellfile.specs.declared.decode.Entry.{Entry}
 
 -- a pair of cells that 5 or 9 refuses, or not
 module _ (n a b : ℕ) where
-  pub stray_high : n ≤ b → stray_pair n a b ≡ true
-  stray_high p = go (leb n a)
-    where
-      go : (t : Bool) → (t || (leb n b || leb b a)) ≡ true
-      go true = refl
-      go false = rw (le-leb n b p)
-
-  pub stray_turned : b < n → b ≤ a → stray_pair n a b ≡ true
-  stray_turned p q = go (leb n a)
-    where
-      go : (t : Bool) → (t || (leb n b || leb b a)) ≡ true
-      go true = refl
-      go false = rw (lt-leb n b p, le-leb b a q)
-
   pub stray_not : b < n → a < b → stray_pair n a b ≡ false
   stray_not p q = rw (lt-leb n a (omega arith), lt-leb n b p, lt-leb b a q)
 
@@ -75,25 +59,12 @@ module _ (s : List ℕ) (i : ℕ) (l : count_of s ≤ i) where
   pub order_end : (k low : ℕ) → order_row s k low i ≡ k
   order_end k low = rw none_left
 
-cond_same : (t : Bool) → ◌≡◌ {A = ℕ} (cond t 6 6) 6
-cond_same true = refl
-cond_same false = refl
-
 module _ (s : List ℕ) (i : ℕ) (l : i < count_of s) (e : Entry) (r : EntryRead s i e) where
   pub some_here : (bad : ℕ → ℕ → Bool) → bad e.a e.b ≡ true → some_from bad s i ≡ true
   some_here bad p = rw (entry_next s i e l r, p)
 
   pub some_next : (bad : ℕ → ℕ → Bool) → bad e.a e.b ≡ false → some_from bad s i ≡ some_from bad s (i + 1)
   some_next bad p = rw (entry_next s i e l r, p)
-
-  pub order_not : (k low low' : ℕ) → key e.a e.b < low → order_row s k low i ≡ order_row s 6 low' (i + 1)
-  order_not k low low' p =
-      rw (entry_next s i e l r, lt-leb low (key e.a e.b) p) (sym (cond_same (ascends_from s low' (i + 1))))
-
-  pub order_next : (k low : ℕ) → low ≤ key e.a e.b
-      → order_row s k low i ≡ order_row s k (key e.a e.b + 1) (i + 1)
-  order_next k low p =
-      rw (entry_next s i e l r, le-leb low (key e.a e.b) p, add-one (key e.a e.b))
 
 -- the first of rows 5 and 6
 module _ (s : List ℕ) where

@@ -1,5 +1,5 @@
 -- How a call with outputs answers: refusal 12 is its last row. Inner contracts cite this; laws: proofs/Answering.
-use Rattle.std.specs.Prelude.{◌≡◌, Bool, false, List, map, ℕ, ◌≤◌, length}
+use Rattle.std.specs.Prelude.{◌≡◌, List, map, ℕ, length}
 use Rattle.matching.specs.Lists.{All}
 use Rattle.checks.specs.Refusals.{Row}
 use Rattle.checks.specs.Calls.{filing}
@@ -19,7 +19,3 @@ lengths outs = map (λ (o : ℕ × List ℕ). length o.1) (rooms outs)
 pub record Does (rows : List Row) (outs : List Output) (a : Answer) : Type 0 where
   pub says : a ≡ filing rows (rooms outs)
   pub writes : All (λ (o : Output). o.2 ≡ written a.0 o.0 o.1) outs
-
--- Where the work buffers are not found too short they have the words that every call needs.
-abbrev pub Enough : Bool → List ℕ → List ℕ → Type 0
-Enough few w1 w2 = few ≡ false → (8192 ≤ length w1) × (8192 ≤ length w2)

@@ -1,5 +1,5 @@
--- The first labels, stored cell by cell. In order: words below the labels stay (`front_set`), and so does a graph in
--- slots (`holds_front`); the label of a cell by the number of its pairs; one cell more. Assumes nothing.
+-- The first labels, stored cell by cell. In order: words below the labels stay (`front_set`); the label of a cell by
+-- the number of its pairs; one cell more. Assumes nothing.
 use mathlib.Core.Path.{◌≡◌, refl, ap, ◌∙◌}
 use mathlib.Core.Logic.{◌≢◌}
 use mathlib.Core.Bool.{Bool, cond}
@@ -9,13 +9,11 @@ use native.Mathlib.Omega.{arith}
 use lib.Dec.{ltb}
 use lib.ListN.{length, set, length-set}
 use lib.Seq.{get_or-set_same, get_or-set_other}
-use Rattle.buffers.specs.Map.{at_sums, at_lasts, at_labels}
+use Rattle.buffers.specs.Map.{at_labels}
 use Rattle.matching.specs.Pairs.{Points}
 use Rattle.matching.specs.Graph.{Graph, partners}
 use Rattle.matching.proofs.Tests.{Test, pass, fail, eq_test}
 use Rattle.matching.proofs.More.{degree_more}
-use Rattle.slots.specs.Slots.{store, graph, last, Holds, low_of, high_of}
-use Rattle.slots.proofs.Links.{last_same}
 use Rattle.grouping.specs.Labels.{own}
 use Rattle.grouping.specs.Finding.{words_in, FrontKept}
 
@@ -32,28 +30,6 @@ front_set {w2} {w2'} f c v = record {
 
 pub front_all : {w2 w2' w2'' : List ℕ} → FrontKept w2 w2' → FrontKept w2' w2'' → FrontKept w2 w2''
 front_all f g = record { long = g.long ∙ f.long; same = λ j l. g.same j l ∙ f.same j l }
-
--- a graph in the slots stays
-pub holds_front : {e : ℕ} {w1 w2 w2' : List ℕ} → Holds e w1 w2 → FrontKept w2 w2' → Holds e w1 w2'
-unfolding graph
-holds_front {e} {w1} {w2} {w2'} h f = record {
-  room1 = h.room1;
-  room2 = omega (arith, h.room2, f.long);
-  slots = record {
-    most = h.slots.most;
-    cells = h.slots.cells;
-    once = h.slots.once;
-    links = λ i m. (
-      (h.slots.links i m).0 ∙ lasts_kept (low_of w1 i) i,
-      (h.slots.links i m).1 ∙ lasts_kept (high_of w1 i) i,
-    );
-    sums = λ c m. f.same (at_sums + c) (omega arith) ∙ h.slots.sums c m;
-    lasts = λ c m. f.same (at_lasts + c) (omega arith) ∙ h.slots.lasts c m ∙ lasts_kept c e;
-  };
-}
-  where
-    lasts_kept : (c i : ℕ) → last (store w1 w2) c i ≡ last (store w1 w2') c i
-    lasts_kept c i = last_same (store w1 w2') (store w1 w2) c i (λ j m. (refl, refl))
 
 -- ---- the label of a cell
 

@@ -1,15 +1,15 @@
--- The search for the live slot of a pair u, v over the slots of u, from the last one down (`Sought`, `seek_end`), and
--- what it finds (`found_joins`, `unfound`). Assumes nothing.
-use mathlib.Core.Path.{◌≡◌, refl, sym, ap}
+-- The search for the live slot of a pair u, v over the slots of u, from the last one down (`Sought`, `seek_end`).
+-- Assumes nothing.
+use mathlib.Core.Path.{◌≡◌, sym, ap}
 use mathlib.Core.Logic.{inl, inr, ◌≢◌}
 use mathlib.Core.Bool.{Bool, false, not}
 use mathlib.Core.List.{List, []}
-use Prim.Native.Nat.{ℕ, suc, ◌≤◌, ◌<◌, zero, ◌-◌}
+use Prim.Native.Nat.{ℕ, ◌≤◌, ◌<◌}
 use native.Mathlib.Omega.{arith}
 use Rattle.matching.specs.Pairs.{touches}
 use Rattle.matching.proofs.Tests.{Test, pass, fail, lt_test, not_test, holds, fails}
 use Rattle.matching.proofs.Pairs.{Same}
-use Rattle.slots.specs.Slots.{store, graph, low_of, high_of, Joins, graph_of}
+use Rattle.slots.specs.Slots.{store, graph, low_of, high_of}
 use Rattle.slots.specs.Found.{FindSlot, LastSlot}
 use Rattle.slots.proofs.Totals.{total_none}
 use Rattle.slots.proofs.Graphs.{gives, join_test}
@@ -39,12 +39,3 @@ module _ {e u v : ℕ} {w1 : List ℕ} {i : ℕ} (p : Sought e u v w1 i) where
       at : (j : ℕ) → j < e → {t : Bool} → Test (j < p.to) (p.to ≤ j) t → gives (store w1 []) u v j ≡ 0
       at j l (pass k) = off_none j (p.next.past j (omega arith) k)
       at j l (fail k) = p.none j k l
-
--- What is found joins the two; where nothing is, they have no points.
-pub found_joins : (e : ℕ) (w1 : List ℕ) (u v s : ℕ) → FindSlot e w1 u v s → s ≢ 0 → Joins e w1 (s - 1) u v
-found_joins e w1 u v zero f n = absurd (n refl)
-found_joins e w1 u v (suc i) f n = let q : suc i - 1 ≡ i = omega arith in rw q f
-
-pub unfound : (e : ℕ) (w1 : List ℕ) (u v s : ℕ) → FindSlot e w1 u v s → s ≡ 0 → 0 ≡ graph_of e w1 u v
-unfound e w1 u v zero f z = sym f
-unfound e w1 u v (suc i) f z = absurd (omega arith)

@@ -123,9 +123,6 @@ step_length : (w : Points) (s : Step) → length (step_words w s) ≡ length (ro
 unfolding step_words
 step_length w s = length-append (row_of w s) (closing_of w s ∷ [])
 
-pub step_some : (w : Points) (s : Step) → 1 ≤ length (step_words w s)
-step_some w s = omega (arith, step_length w s)
-
 -- a step that takes r cells away writes at most r + 3 words
 words_room : {n : ℕ} {w : Points} → Graph n w → (s : Step) → Fits w s
     → length (step_words w s) + 4 * cells_left n (apply w s) ≤ 4 * cells_left n w
