@@ -1,12 +1,13 @@
 -- Where no leaf is left by a step. In order: a leaf, a ring and a chain change no points of a cell that is not theirs
 -- (`leaf_else`, `ring_else`, `chain_else`); so a cell below all of theirs has the degree that it had (`leaf_quiet`,
--- `ring_quiet`, `chain_quiet`); the partners of a cell over its slots (`Lows`, `lows_end`);
+-- `ring_quiet`, `chain_quiet`); the partners of a cell over its slots (`Lows`, `lows_end`, `lows_or`);
 -- by what is told of a step (`quieted_leaf`, `quieted_ring`, `quieted_chain`). Assumes nothing.
 use mathlib.Core.Path.{◌≡◌, refl, sym, ap, ◌∙◌}
 use mathlib.Core.Logic.{◌⊎◌, inl, inr, ◌≢◌}
 use mathlib.Core.Bool.{Bool, true, false, cond}
 use mathlib.Core.List.{List}
 use mathlib.Core.Option.{some}
+use Rattle.std.specs.Prelude.{Option, None, Some, MatchOption}
 use Prim.Native.Nat.{ℕ, suc, ◌-◌, ◌≤◌, ◌<◌}
 use native.Mathlib.Omega.{arith}
 use lib.ListN.{get_or}
@@ -22,7 +23,7 @@ use Rattle.matching.proofs.Put.{dropped_out, dropped_most}
 use Rattle.matching.proofs.Rows.{AtEnd, is_run, run_outer}
 use Rattle.matching.proofs.Find.{is_fits}
 use Rattle.cellfile.specs.Answers.{Answer}
-use Rattle.slots.specs.Slots.{graph_of, low_of, high_of, Joins}
+use Rattle.slots.specs.Slots.{name_of, graph_of, low_of, high_of, Joins}
 use Rattle.slots.proofs.Degrees.{degree_same}
 use Rattle.slots.proofs.Scanning.{joins_turned, joins_some}
 use Rattle.finding.specs.Finding.{told, to_tell, Quiet}
@@ -131,6 +132,13 @@ module _ {e : ℕ} {w1 : List ℕ} {u low : ℕ} where
           let j = joins_some e w1 c u h in
           absurd (omega (arith, n.past j.0 c (omega arith) (joins_turned j.1)))
       none c l (fail h) = omega arith
+
+  -- or some are, and nothing is said
+  pub lows_or : {least r : ℕ} (next : Option ℕ) (Q : ℕ → Type 0) → Lows e w1 u low least (name_of next)
+      → MatchOption next (r ≡ least) Q → ((i : ℕ) → Q i → r ≡ 0) → Near (graph_of e w1) u low r
+  lows_or None Q n h is = rw h (lows_end n)
+  lows_or (Some i) Q n h is =
+      rw (is i h) record { most = omega arith; cell = omega arith; apart = λ c l. absurd (omega arith) }
 
 -- ---- what is told of a step
 

@@ -37,10 +37,7 @@ fn lowest_near(graph: &WorkingGraph, u: usize, low: usize) -> usize
         }
         next = graph.slot_before(u, i);
     }
-    match next {
-        Some(_) => 0,
-        None => least,
-    }
+    next.map_or(least, |_| 0)
 }
 
 // Below this cell no leaf is left by a step, where there was none below `low` before it.

@@ -5,8 +5,8 @@ use Prim.Native.Nat.{ℕ, zero, suc, ◌+◌, ◌*◌, ◌-◌, ◌/◌, ◌%◌
 use mathlib.Core.Path.{◌≡◌, refl, sym, ap, ◌∙◌}
 use mathlib.Core.List.{List, [], ◌∷◌, map}
 use native.Mathlib.Omega.{arith}
-use native.Mathlib.Nat.{div-one, one-mul, mod-eq_of_lt, mul-le-mul_right, mul-le-mul}
-use lib.ListN.{length, get_or, drop, get_or-map}
+use native.Mathlib.Nat.{div-one, one-mul, mod-eq_of_lt}
+use lib.ListN.{get_or, drop, get_or-map}
 use lib.Pow.{shr-shr, pow-lt}
 use mathlib.Core.Bool.{Bool, true, false, cond, ◌||◌}
 use lib.Dec.{eqb}
@@ -22,7 +22,7 @@ use Rattle.cellfile.specs.Reads.{entry_fields, EntryAt, EntryRead, WholeFile, pl
 use Rattle.cellfile.specs.Shapes.{ShapeRead}
 use Rattle.cellfile.specs.declared.decode.Entry.{Entry}
 use Rattle.cellfile.specs.declared.records.Shape.{Shape}
-use Rattle.cellfile.proofs.Walk.{rest_from, from_place, record_at_is, place_fits}
+use Rattle.cellfile.proofs.Walk.{rest_from, from_place, record_at_is}
 
 -- ---- the fields by the record's number
 
@@ -78,11 +78,6 @@ shape_is s = record {
 
 -- the bytes of so many entries
 module _ (s : List ℕ) (r : Shape) (m : ℕ) (h : ShapeRead s r) where
-  pub length_fits : m < 8192 → (r.bytes * m ≤ 65536) × (r.start + r.bytes * m ≤ 65540)
-  length_fits l =
-      let e = mul-le-mul {n₁ = r.bytes} {m₁ = m} {n₂ = 8} {m₂ = 8192} h.most (omega arith) in
-      (omega (arith, e), omega (arith, e, h.start_fits))
-
   pub length_said : r.start + r.bytes * m ≡ file_length (list_layout s) (cells_of s) m
   length_said = rw (h.start, h.bytes)
 
@@ -121,15 +116,6 @@ points_fit s t = rw (layout_is s).1 (omega arith)
 -- an entry of a list with m of them
 module _ (s : List ℕ) (r : Shape) {m : ℕ} (i : ℕ) (shaped : ShapeRead s r) (whole : WholeFile (list_layout s) s m)
     (below : i < m) where
-  -- is in the list
-  pub entry_place : (r.start + r.bytes * i + r.bytes ≤ length s) × (r.bytes * i ≤ 65536)
-  entry_place =
-      let f = place_fits (list_layout s) s i whole below in
-      let b = mul-le-mul_right {m = r.bytes} {n = 8} 8191 shaped.most in (
-        rw (shaped.start, shaped.bytes) f.0,
-        omega (arith, b, ap (λ k. k * i) shaped.bytes, ap (λ k. k * 8191) shaped.bytes, f.1),
-      )
-
   -- is that which is read there
   pub entry_is : (e : Entry) → EntryAt r.bytes (rest_from (r.start + r.bytes * i) s) e → EntryRead s i e
   unfolding entries_all

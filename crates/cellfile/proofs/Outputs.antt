@@ -20,7 +20,7 @@ use Rattle.buffers.specs.Map.{unit, at_cells}
 use Rattle.cellfile.specs.Files.{Layout, header, store_list, short_list, slip, pairing, origin_list, file_length}
 use Rattle.cellfile.specs.Files.{write_file, onto, as_fields}
 use Rattle.cellfile.specs.Fits.{WholeBytes, FitsFields}
-use Rattle.cellfile.specs.Words.{word_bytes, file_of, words_file, word_of_short, no_entry, Plain, Writable, RowsOf}
+use Rattle.cellfile.specs.Words.{word_bytes, file_of, words_file, word_of_short, no_entry, Plain, RowsOf}
 use Rattle.cellfile.specs.Words.{points_room}
 use Rattle.cellfile.proofs.Bytes.{length_bytes}
 use Rattle.cellfile.proofs.Fields.{write_fields, fields_packed}
@@ -64,21 +64,13 @@ unfolding onto
 last_written k v out h e =
     rw (
       e,
-      take_all (8 - (8 - k)) (drop (8 - k) (to_be_bytes w64 v)) (omega (arith, length-drop (8 - k) (to_be_bytes w64 v))),
+      take_all (8 - (8 - k)) (drop (8 - k) (to_be_bytes w64 v)) (omega
+          (arith, length-drop (8 - k) (to_be_bytes w64 v))),
       last_bytes k v h,
       length_bytes k v,
     )
 
 -- ---- a part after what was written
-
-pub part_room : (out : List ℕ) (at k : ℕ) → at + k ≤ length out → k ≤ length (take (length out - at) (drop at out))
-part_room out at k h =
-    omega (
-      arith,
-      length-drop at out,
-      length-take-le (length out - at) (drop at out)
-          (omega (arith, length-drop at out)),
-    )
 
 module _ (pre xs out₀ out : List ℕ) (at : ℕ) (len : length pre ≡ at) (e : out ≡ onto pre out₀) where
   room : at ≤ length out
@@ -172,9 +164,6 @@ pub plain_file : {l : Layout} → Plain l → (n : ℕ) (words : List ℕ)
 unfolding bytes
 plain_file {l} p n words = rw (words_records l.entry words p.whole, length-map, p.bare n)
 
-pub plain_length : {l : Layout} → Plain l → (n m : ℕ) → file_length l n m ≡ 4 + size l.entry * m
-plain_length p n m = rw (p.bare n)
-
 -- the length of a file of words
 pub words_length : {l : Layout} → Plain l → (n r : ℕ) (ws : List ℕ) → r ≤ length ws
     → file_length l n r ≡ length (words_file l n r ws)
@@ -196,13 +185,6 @@ records_file {A} l n r ws g xs e h =
         → map (fields l.entry) (map (λ (x : A). packed l.entry (g x)) xs) ≡ map g xs
     again [] h = refl
     again (x ∷ xs) h = ap₂ (λ v vs. v ∷ vs) (fields_packed l.entry (g x) h.0) (again xs h.1)
-
--- behind the header there is room for the entries
-pub plain_room : {l : Layout} → Plain l → {n : ℕ} {words out : List ℕ} (out' : List ℕ)
-    → Writable l n words out → length out' ≡ length out
-    → size l.entry * length words ≤ length (take (length out' - 4) (drop 4 out'))
-plain_room {l} p {n} {words} out' w same =
-    part_room out' 4 (size l.entry * length words) (omega (arith, plain_length p n (length words), w.room, same))
 
 -- the layouts of store lists, slips, pairings and origin lists
 pub plain_store : Plain store_list

@@ -1,12 +1,12 @@
 -- Records met one by one from the start of a file, as the loops over entries, steps and pairs meet them. In order: a
 -- part to the end; the record at a place (`record_at_is`); what is left of a list from place i on is its item there and
--- what is left from the next place on (`entry_next`, `step_next`, `pair_next`, `fields_next`), and how many there are;
+-- what is left from the next place on (`entry_next`, `step_next`, `pair_next`), and how many there are;
 -- at the end: the cells of pairs have 10 bits (`cells_fit`). Assumes nothing.
 use Prim.Native.Nat.{ℕ, suc, ◌+◌, ◌*◌, ◌-◌, ◌<◌, ◌≤◌, zero}
 use mathlib.Core.Path.{◌≡◌, sym, ap, ◌∙◌}
 use mathlib.Core.List.{List, [], ◌∷◌, map}
 use native.Mathlib.Omega.{arith}
-use native.Mathlib.Nat.{mul-suc, mul-zero, mul-le-mul_left}
+use native.Mathlib.Nat.{mul-suc, mul-zero}
 use native.Mathlib.Numerals.{add-one}
 use lib.ListN.{length, take, drop, get_or, length-drop, length-map, get_or-map}
 use lib.Seq.{drop-drop, drop-cons, take_all}
@@ -47,18 +47,6 @@ record_at_is l s i h =
     record_in_is l.entry (drop (start l (cells_of s)) s) (count_of s) i h
     ∙ rw (drop-drop (size l.entry * i) (start l (cells_of s)) s)
 
--- the record is in the file, and the number of its place in bounds
-pub place_fits : (l : Layout) (s : List ℕ) {m : ℕ} (i : ℕ) → WholeFile l s m → i < m
-    → (place_of l s i + size l.entry ≤ length s)
-    × (size l.entry * i ≤ size l.entry * 8191)
-unfolding fields
-place_fits l s i r k =
-    let h : i < count_of s = omega (arith, r.count) in
-    let e : size l.entry * suc i ≡ size l.entry + size l.entry * i = rw mul-suc (omega arith) in (
-      omega (arith, r.long, e, mul-le-mul_left {m = suc i} {n = count_of s} (size l.entry) (omega arith)),
-      mul-le-mul_left {m = i} {n = 8191} (size l.entry) (omega arith),
-    )
-
 -- the record read where it starts
 pub record_found : {A : Type 0} {l : Layout} {says : A → List ℕ} {Fits : A → Type 0} (s : List ℕ) {m : ℕ} (i at : ℕ)
     {r : A} → WholeFile l s m → i < m → at ≡ place_of l s i → RecordAt l says Fits (rest_from at s) r
@@ -98,10 +86,6 @@ step_next s i t l r =
 
 pub fields_count : (s : List ℕ) → length (read_entries pairing s) ≡ count_of s
 fields_count s = records_count pairing s
-
-pub fields_next : (s : List ℕ) (i : ℕ) (p : PairEntry) → i < count_of s → PairRead s i p
-    → drop i (read_entries pairing s) ≡ (p.a ∷ p.b ∷ p.zeros ∷ []) ∷ drop (i + 1) (read_entries pairing s)
-fields_next s i p l r = next (read_entries pairing s) i [] _ (omega (arith, fields_count s)) r.is
 
 pub pairs_count : (s : List ℕ) → length (pairs_of s) ≡ count_of s
 pairs_count s = length-map (read_entries pairing s) as_pair ∙ fields_count s

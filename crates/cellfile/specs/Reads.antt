@@ -43,7 +43,8 @@ pub record PairFits (p : PairEntry) : Type 0 where
   pub a : p.a < 1024
   pub b : p.b < 1024
 
-pub record RecordAt {A : Type 0} (l : Layout) (says : A → List ℕ) (Fits : A → Type 0) (s : List ℕ) (r : A) : Type 0 where
+pub record RecordAt {A : Type 0} (l : Layout) (says : A → List ℕ) (Fits : A → Type 0) (s : List ℕ) (r : A)
+    : Type 0 where
   pub is : says r ≡ read_record l.entry s
   pub fits : Fits r
 

@@ -10,6 +10,7 @@ use crate::format::{HEADER_BYTES, Kind};
 // The fields of a header.
 #[derive(Clone, Copy)]
 pub struct Header {
+    // As the file says, which may be no kind.
     pub kind: u64,
     pub n: usize,
     pub m: usize,
@@ -27,6 +28,7 @@ pub struct Entry {
 // An entry of a slip.
 #[derive(Clone, Copy)]
 pub struct SlipStep {
+    // As the slip says, which may be no rule.
     pub rule: u64,
     pub cell: usize,
 }

@@ -1,6 +1,6 @@
 // Inner: writes a file into an output. Its first bytes are the file, the others are unchanged. The caller has found
-// that the output has room. Records come as numbers, of which the low bytes count: those of a plain file as words, those
-// of a short list as rows and cells in the first work buffer.
+// that the output has room. Records come as numbers, of which the low bytes count: those of a plain file as words,
+// those of a short list as rows and cells in the first work buffer.
 ghost use Rattle.std.specs.Prelude.{◌≡◌, ◌∷◌, [], map, ◌+◌, ◌*◌, ◌/◌, ◌%◌, ◌≤◌, ◌<◌, length, get_or, ℕ, List};
 ghost use Rattle.buffers.specs.Map.{unit};
 ghost use Rattle.cellfile.specs.Bytes.{bytes};

@@ -6,15 +6,21 @@ use mathlib.Core.Logic.{◌≢◌}
 use mathlib.Core.Bool.{Bool, true, false, not, cond, ◌||◌}
 use mathlib.Core.List.{List, [], ◌∷◌, map}
 use native.Mathlib.Omega.{arith}
-use lib.ListN.{drop, drop_of_length-le}
+use lib.ListN.{drop, drop_of_length-le, get_or}
 use borrow.Author.Tests.{lt-leb, ne_eqb}
 use Rattle.cellfile.specs.Files.{cells_of, count_of, entry_key, raw_list, entries_all}
 use Rattle.checks.specs.Refusals.{Row, ascending_from, first, is_no_list, is_too_large}
 use Rattle.checks.specs.Refusals.{wrong_length, stray_pair, stray_entry, unordered, loose_pair, is_bad_raw}
+use Rattle.cellfile.specs.Words.{no_entry}
+use Rattle.std.specs.Prelude.{Result, Ok, Err, MatchResult, IfOk}
+use Rattle.std.specs.Result.{IsErrAnd}
+use Rattle.checks.specs.Calls.{refusal_in}
+use Rattle.checks.specs.declared.Refusal.{Refusal}
 use Rattle.checks.specs.Loops.{head_rows, entry_rows, some_from}
 use Rattle.cellfile.specs.Reads.{EntryRead}
 use Rattle.cellfile.proofs.Walk.{entries_count, entry_next}
 use Rattle.checks.proofs.Rows.{first_none}
+use Rattle.checks.proofs.Layers.{number_some}
 use Rattle.cellfile.specs.declared.decode.Entry.{Entry}
 
 -- a pair of cells that 5 or 9 refuses, or not
@@ -66,6 +72,12 @@ module _ (s : List ℕ) (i : ℕ) (l : i < count_of s) (e : Entry) (r : EntryRea
   pub some_next : (bad : ℕ → ℕ → Bool) → bad e.a e.b ≡ false → some_from bad s i ≡ some_from bad s (i + 1)
   some_next bad p = rw (entry_next s i e l r, p)
 
+-- the test of 13 of the entry at a place, by the entry read there
+pub loose_at : (n : ℕ) (s : List ℕ) (i : ℕ) (e : Entry) (b t : Bool) → EntryRead s i e → b ≡ t
+    → t ≡ loose_pair n e.a e.b
+    → b ≡ loose_pair n (get_or (entries_all s) i no_entry).0 (get_or (entries_all s) i no_entry).1
+loose_at n s i e b t r p q = p ∙ q ∙ ap (λ (x : ℕ × ℕ × ℕ). loose_pair n x.0 x.1) r.is
+
 -- the first of rows 5 and 6
 module _ (s : List ℕ) where
   pub entries_5 : stray_entry s ≡ true → 5 ≡ first (entry_rows s)
@@ -73,6 +85,23 @@ module _ (s : List ℕ) where
 
   pub entries_6 : {k : ℕ} → stray_entry s ≡ false → first ((6, unordered s) ∷ []) ≡ k → k ≡ first (entry_rows s)
   entries_6 e f = rw e (sym f)
+
+-- a result whose refusal was replaced by the one that is said
+module _ {A : Type 0} (Q : Refusal → Refusal → Type 0) where
+  abbrev Replaced : Result A Refusal → Result A Refusal → Type 0
+  Replaced o m = MatchResult o (λ x. m ≡ Ok x) (λ r. IsErrAnd m (Q r))
+
+  pub replaced_err : (o m : Result A Refusal) (r said : Refusal) → Replaced o m → m ≡ Err r
+      → ((d t : Refusal) → Q d t → t ≡ said) → (0 < refusal_in o) × (r ≡ said)
+  replaced_err (Ok x) m r said h e is = absurd cc
+  replaced_err (Err d) (Ok x) r said h e is = absurd h
+  replaced_err (Err d) (Err t) r said h e is = let q = is d t h in (number_some d, cc)
+
+  pub replaced_ok : (P : A → Type 0) (o m : Result A Refusal) (x : A) → Replaced o m → m ≡ Ok x → IfOk o P
+      → (0 ≡ refusal_in o) × P x
+  replaced_ok P (Ok y) m x h e p = let q : y ≡ x = cc in (refl, subst P q p)
+  replaced_ok P (Err d) (Ok y) x h e p = absurd h
+  replaced_ok P (Err d) (Err t) x h e p = absurd cc
 
 -- 13 by the rows of the header, and by the entries
 module _ (s : List ℕ) where

@@ -9,6 +9,7 @@ use mathlib.Core.Logic.{◌≢◌, ◌↔◌}
 use mathlib.Core.Bool.{Bool, true, false, cond}
 use mathlib.Core.List.{List, [], ◌∷◌, ◌++◌}
 use native.Mathlib.Omega.{arith}
+use lib.ListN.{length}
 use Rattle.checks.specs.Refusals.{Row, first, too_few_words, lists, list_rows}
 use Rattle.checks.specs.Calls.{number, call_rows}
 use Rattle.checks.specs.declared.Refusal.{Refusal}
@@ -38,6 +39,11 @@ number_some ShortOutput = omega arith
 number_some BadRaw = omega arith
 
 -- ---- answers
+
+-- an answer with no value is a refusal, where an accepted one has a value
+pub answer_refused : (n k v : ℕ) (vs : List ℕ) → (k, []) ≡ answer n (v ∷ vs) → (0 < n) × (k ≡ n)
+answer_refused zero k v vs e = absurd (omega (arith, ap (λ (a : Answer). length a.1) e))
+answer_refused (suc n) k v vs e = (omega arith, ap (λ (a : Answer). a.0) e)
 
 -- a refusal's number is that of the rows
 pub answer_number : (n k : ℕ) (vs : List ℕ) → 0 < k → (answer n vs ≡ (k, [])) ↔ (n ≡ k)
@@ -71,11 +77,8 @@ pub first_passed : (rows more : List Row) → All (λ (r : Row). r.1 ≡ false) 
 first_passed [] more h = refl
 first_passed (r ∷ rows) more h = rw (h.0, first_passed rows more h.1)
 
--- what a check refuses is refused with any rows behind its own, and where it passes they decide
+-- where a check passes, the rows behind its own decide
 module _ (rows more : List Row) where
-  pub after_refused : (r : Refusal) → number r ≡ first rows → number r ≡ first (rows ++ more)
-  after_refused r e = e ∙ sym (first_refused rows more (omega (arith, e, number_some r)))
-
   pub after_passed : {k : ℕ} → All (λ (r : Row). 0 < r.0) rows → 0 ≡ first rows → k ≡ first more
       → k ≡ first (rows ++ more)
   after_passed h e p = p ∙ sym (first_passed rows more (first_none rows h (sym e)))
@@ -84,9 +87,6 @@ module _ (rows more : List Row) where
 pub refusal_answers : (rows : List Row) (values : List ℕ) (r : Refusal) → number r ≡ first rows
     → (number r, []) ≡ answer (first rows) values
 refusal_answers rows values r e = sym ((answer_number (first rows) (number r) values (number_some r)).1 (sym e))
-
-pub values_answer : (rows : List Row) (values : List ℕ) → 0 ≡ first rows → (0, values) ≡ answer (first rows) values
-values_answer rows values e = rw (← e)
 
 -- ---- the rows of a call: 1, those of the list, and more
 

@@ -1,5 +1,6 @@
 -- The laws of the refusals and of the checks.
 pub mod Rows
+pub mod Places
 pub mod Ascending
 pub mod Forms
 pub mod Parts

@@ -11,7 +11,7 @@ use native.Mathlib.Omega.{arith}
 use native.Mathlib.Nat.{add-zero}
 use lib.Dec.{ltb}
 use lib.ListN.{drop, drop_of_length-le}
-use borrow.Author.Tests.{lt-ltb, le-ltb, eq-eqb, ne_eqb}
+use borrow.Author.Tests.{lt-ltb, le-ltb, eq-eqb}
 use Rattle.matching.specs.Lists.{all, All}
 use Rattle.matching.specs.Pairs.{Pair, sum}
 use Rattle.matching.specs.Listed.{Entry, joined, listed}
@@ -45,18 +45,6 @@ module _ (s : List ℕ) (p : Pair) (i : ℕ) where
           entry_next s i e l r,
           le-ltb (pair_key p) (key e.a e.b) (omega arith),
           eq-eqb (key e.a e.b) (pair_key p) h,
-        )
-
-    pub sought_out : pair_key p < key e.a e.b → sought_from ≡ none
-    sought_out h = rw (entry_next s i e l r, lt-ltb (pair_key p) (key e.a e.b) h)
-
-    pub sought_next : key e.a e.b ≢ pair_key p → key e.a e.b ≤ pair_key p
-        → sought_from ≡ sought (drop (i + 1) (entries_all s)) p
-    sought_next n h =
-        rw (
-          entry_next s i e l r,
-          le-ltb (pair_key p) (key e.a e.b) h,
-          ne_eqb (key e.a e.b) (pair_key p) n,
         )
 
 -- ---- what the search finds

@@ -4,7 +4,8 @@
 
 mod lists;
 
-ghost use Rattle.std.specs.Prelude.{◌≡◌, ◌∷◌, [], ◌≤◌, ◌<◌, ℕ, true, false, length, OnOk, IfOk, MatchOption, MatchResult};
+ghost use Rattle.std.specs.Prelude.{◌≡◌, ◌∷◌, [], ◌≤◌, ◌<◌, ℕ, true, false, length};
+ghost use Rattle.std.specs.Prelude.{OnOk, IfOk, MatchOption, MatchResult};
 ghost use Rattle.matching.specs.Lists.{any};
 ghost use Rattle.cellfile.specs.Files.{steps_of, pairing as pairing_layout, read_entries};
 ghost use Rattle.cellfile.specs.Kinds.{layout_of};
@@ -120,13 +121,10 @@ fn is_loose(n: usize, a: usize, b: usize) -> bool
 fn has_loose(entries: &Entries) -> bool
     ensures { result ≡ some_from (loose_pair entries.now.n) entries.now.file.now 0 }
 {
-    for i in 0..entries.m {
+    (0..entries.m).any(|i| {
         let e = entries.get(i);
-        if is_loose(entries.n, e.a, e.b) {
-            return true;
-        }
-    }
-    false
+        is_loose(entries.n, e.a, e.b)
+    })
 }
 
 // Refusal 13.
@@ -134,9 +132,7 @@ pub fn check_raw(raw: &[u8]) -> Result<Entries<'_>, Refusal>
     ensures refusal { refusal_in result ≡ first ((13, is_bad_raw raw.now) ∷ []) }
     ensures list { IfOk result (λ entries. entries.file.now ≡ raw.now) }
 {
-    let Ok(entries) = check_head(raw, Kind::RawList) else {
-        return Err(Refusal::BadRaw);
-    };
+    let entries = check_head(raw, Kind::RawList).map_err(|_| Refusal::BadRaw)?;
     if has_loose(&entries) {
         return Err(Refusal::BadRaw);
     }
@@ -198,17 +194,18 @@ fn headed<R: Record>(file: &[u8], n: usize) -> Option<Records<'_, R>>
     Some(Records::new(file, h.m))
 }
 
-// Whether some step has a rule below `low` or above `high`.
+// Whether the rule is below `low` or above `high`.
+fn is_outside(rule: u64, low: u64, high: u64) -> bool
+    ensures { result ≡ is_no_rule (low, high) rule }
+{
+    rule < low || high < rule
+}
+
+// Whether some step has such a rule.
 fn has_no_rule(steps: &Records<'_, SlipStep>, low: u64, high: u64) -> bool
     ensures { result ≡ any (λ (t : ℕ × ℕ). is_no_rule (low, high) t.0) (steps_of steps.now.file.now) }
 {
-    for i in 0..steps.count {
-        let rule = steps.get(i).rule;
-        if rule < low || high < rule {
-            return true;
-        }
-    }
-    false
+    (0..steps.count).any(|i| is_outside(steps.get(i).rule, low, high))
 }
 
 // Whether some entry has a set zero bit or not a < b < n, or a does not ascend.
@@ -226,7 +223,7 @@ fn has_bad_pair(pairs: &Records<'_, PairEntry>, n: usize) -> bool
     false
 }
 
-// Refusal 7, of a slip for a list of n cells, whose rules are from `low` to `high`.
+// Refusal 7, of a slip for a list of n cells, whose rules are from `low` to `high`: numbers, as a slip may say any.
 pub fn check_slip(
     slip: &[u8],
     n: usize,
@@ -236,9 +233,7 @@ pub fn check_slip(
     ensures refusal { refusal_in result ≡ first ((7, bad_slip (low, high) n slip.now) ∷ []) }
     ensures slip { IfOk result (λ steps. steps.file.now ≡ slip.now) }
 {
-    let Some(steps) = headed(slip, n) else {
-        return Err(Refusal::BadSlip);
-    };
+    let steps = headed(slip, n).ok_or(Refusal::BadSlip)?;
     if has_no_rule(&steps, low, high) {
         return Err(Refusal::BadSlip);
     }
@@ -250,9 +245,7 @@ pub fn check_pairing(pairing: &[u8], n: usize) -> Result<Records<'_, PairEntry>,
     ensures refusal { refusal_in result ≡ first ((9, bad_pairing n pairing.now) ∷ []) }
     ensures pairing { IfOk result (λ pairs. pairs.file.now ≡ pairing.now) }
 {
-    let Some(pairs) = headed(pairing, n) else {
-        return Err(Refusal::BadPairing);
-    };
+    let pairs = headed(pairing, n).ok_or(Refusal::BadPairing)?;
     if has_bad_pair(&pairs, n) {
         return Err(Refusal::BadPairing);
     }

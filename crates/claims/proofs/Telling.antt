@@ -22,6 +22,7 @@ use Rattle.claims.specs.Asking.{and_then, asking, Told}
 use Rattle.claims.proofs.Demand.{demand_three}
 use Rattle.claims.proofs.Origins.{origin_claim}
 use Rattle.claims.proofs.Answers.{zero_tells}
+use Rattle.checks.proofs.Layers.{answer_accepted}
 
 -- A file is read again from the output that it was written to.
 file_again : (file out : List ℕ) (k : ℕ) → k ≡ length file → take k (onto file out) ≡ file
@@ -109,6 +110,10 @@ module _ (g : Given) where
 
   abbrev onward : List ℕ → Answer → Answer
   onward i x = and_then x (λ j. ended i j (weighing g.list lift_file_is words))
+
+  -- a replay that refuses nothing answers one length
+  pub replay_one : {x : Answer} {i j : ℕ} {short' a' b' : List ℕ} → x ≡ (0, i ∷ j ∷ []) → ReplayDid x short' a' b' → ⊥
+  replay_one {i = i} {j = j} e r = omega (arith, ap length (answer_accepted _ (i ∷ j ∷ []) _ (sym e ∙ r.0)).1)
 
   -- ---- replay answers i
 

@@ -5,11 +5,12 @@
 -- (`WayAt`, `Turns`). Assumes nothing.
 use mathlib.Core.Path.{◌≡◌, refl, sym, ap, ◌∙◌, subst}
 use mathlib.Core.Logic.{◌⊎◌, inl, inr, ◌≢◌, ⊎_map}
-use mathlib.Core.Bool.{Bool, true, false}
+use mathlib.Core.Bool.{Bool, true, false, true≢false}
 use mathlib.Core.List.{List, [], ◌∷◌}
 use Prim.Native.Nat.{ℕ, ◌≤◌, ◌<◌}
 use native.Mathlib.Omega.{arith}
 use lib.ListN.{length}
+use Rattle.std.specs.Prelude.{Option, None, Some, IfSome, is_some}
 use Rattle.matching.specs.Lists.{mem}
 use Rattle.matching.specs.Pairs.{Points, Each}
 use Rattle.matching.specs.Best.{walk}
@@ -190,15 +191,15 @@ row_spread P {w} g on {u} {v} {z} {inner} r m p = go z b.passed b.run b.way p
 
 -- The cells of degree two that both ways have passed, z among them; z is the lowest of them where no lower one was
 -- seen. A partner of theirs was passed too, or a way stands at it.
-pub record Passed (w : Points) (z last at next_last next_at seen : ℕ) (past : List ℕ) : Type 0 where
+pub record Passed (w : Points) (z last at next_last next_at : ℕ) (seen : Option ℕ) (past : List ℕ) : Type 0 where
   pub named : mem z past ≡ true
   pub here : mem last past ≡ true
   pub next : mem next_last past ≡ true
   pub two : (x : ℕ) → mem x past ≡ true → degree 1024 w x ≡ 2
-  pub low : seen ≡ z → (x : ℕ) → mem x past ≡ true → z ≤ x
+  pub low : seen ≡ None → (x : ℕ) → mem x past ≡ true → z ≤ x
   pub onward : (x y : ℕ) → mem x past ≡ true → 0 < w x y → (mem y past ≡ true) ⊎ ((at ≡ y) ⊎ (next_at ≡ y))
 
-module _ {w : Points} (g : Graph 1024 w) {z last at next_last next_at seen : ℕ} {past : List ℕ}
+module _ {w : Points} (g : Graph 1024 w) {z last at next_last next_at : ℕ} {seen : Option ℕ} {past : List ℕ}
     (p : Passed w z last at next_last next_at seen past) where
   -- the ways have met: a row with z inside ends at a cell that was passed
   met_end : at ≡ next_last → next_at ≡ last → {u v c : ℕ} {inner : List ℕ} → IsRow 1024 w u inner v
@@ -221,7 +222,7 @@ module _ {w : Points} (g : Graph 1024 w) {z last at next_last next_at seen : ℕ
   met_chain e a b = rw e (met_no_chain a b)
 
   -- z is the lowest of the ring
-  pub met_lowest : (r : Rule) → r ≢ by_leaf → at ≡ next_last → next_at ≡ last → seen ≡ z → Unnamed w r z
+  pub met_lowest : (r : Rule) → r ≢ by_leaf → at ≡ next_last → next_at ≡ last → seen ≡ None → Unnamed w r z
   met_lowest by_ring d a b q (leaf u v) s = elim s [ ]
   met_lowest by_ring d a b q (chain u v _ inner) s = elim s [ ]
   met_lowest by_leaf d a b q s y = d refl
@@ -243,11 +244,18 @@ pub record WayAt (e : ℕ) (w1 : List ℕ) (r : Rule) (z : ℕ) (s : Stop) : Typ
   pub below : s.end < 1024
   pub on : OnAll (graph_of e w1) r z s.end
 
--- Both ways, the lower cell that was seen, or z, and the cells that were passed.
-pub record Turns (e : ℕ) (w1 : List ℕ) (r : Rule) (z : ℕ) (way other : Stop) (seen : ℕ) : Type 0 where
+some_none : {x : ℕ} → ◌≡◌ {A = Option ℕ} (Some x) None → ⊥
+some_none q = (let y : ◌≡◌ {A = ℕ} 0 1 = cc in omega arith)
+
+pub seen_some : {P : ℕ → Type 0} (o : Option ℕ) → IfSome o P → is_some o ≡ true → (c : ℕ) × P c
+seen_some None p q = absurd (true≢false (sym q))
+seen_some (Some c) p q = (c, p)
+
+-- Both ways, the lower cell that was seen, if one was, and the cells that were passed.
+pub record Turns (e : ℕ) (w1 : List ℕ) (r : Rule) (z : ℕ) (way other : Stop) (seen : Option ℕ) : Type 0 where
   pub here : WayAt e w1 r z way
   pub next : WayAt e w1 r z other
-  pub lower : seen ≢ z → Lower (graph_of e w1) r z seen
+  pub lower : IfSome seen (Lower (graph_of e w1) r z)
   pub past : List ℕ
   pub passed : Passed (graph_of e w1) z way.last way.end other.last other.end seen past
 
@@ -282,14 +290,14 @@ module _ {e : ℕ} {w1 w2 : List ℕ} {r : Rule} (h : Holds e w1 w2) (d : r ≢ 
 
   pub turns_start : {z f i : ℕ} → degree 1024 w z ≡ 2 → Joins e w1 i z f → f < 1024
       → {t : Stop} → Onward e w1 (record { end = z; last = f; slot = i }) t
-      → Turns e w1 r z (record { end = f; last = z; slot = i }) t z
+      → Turns e w1 r z (record { end = f; last = z; slot = i }) t None
   turns_start {z} two j l {t} o =
       let on = named_on w r z in
       let here = mem_head z z [] refl in
       record {
         here = stands on two j l;
         next = goes_on on two o;
-        lower = λ q. absurd (q refl);
+        lower = tt;
         past = z ∷ [];
         passed = record {
           named = here;
@@ -302,8 +310,9 @@ module _ {e : ℕ} {w1 w2 : List ℕ} {r : Rule} (h : Holds e w1 w2) (d : r ≢ 
       }
 
   -- the way whose turn it is goes on, and the other has its turn
-  pub turns_on : {z seen seen' : ℕ} {way other : Stop} → Turns e w1 r z way other seen → degree 1024 w way.end ≡ 2
-      → ((way.end < z) × (seen' ≡ way.end)) ⊎ ((z ≤ way.end) × (seen' ≡ seen)) → {t : Stop} → Onward e w1 way t
+  pub turns_on : {z : ℕ} {seen seen' : Option ℕ} {way other : Stop} → Turns e w1 r z way other seen → degree 1024 w
+      way.end ≡ 2
+      → ((way.end < z) × (seen' ≡ Some way.end)) ⊎ ((z ≤ way.end) × (seen' ≡ seen)) → {t : Stop} → Onward e w1 way t
       → Turns e w1 r z other t seen'
   turns_on {z} {seen} {seen'} {way} {other} s two k {t} o =
       record {
@@ -324,13 +333,13 @@ module _ {e : ℕ} {w1 w2 : List ℕ} {r : Rule} (h : Holds e w1 w2) (d : r ≢ 
       p : Passed w z way.last way.end other.last other.end seen s.past
       p = s.passed
 
-      go : ((way.end < z) × (seen' ≡ way.end)) ⊎ ((z ≤ way.end) × (seen' ≡ seen)) → seen' ≢ z → Lower w r z seen'
-      go (inl q) u = rw q.1 (record { on = s.here.on; below = q.0; two = two })
-      go (inr q) u = rw q.1 (s.lower (rw q.1 at u))
+      go : ((way.end < z) × (seen' ≡ Some way.end)) ⊎ ((z ≤ way.end) × (seen' ≡ seen)) → IfSome seen' (Lower w r z)
+      go (inl q) = rw q.1 (record { on = s.here.on; below = q.0; two = two })
+      go (inr q) = rw q.1 s.lower
 
-      low : ((way.end < z) × (seen' ≡ way.end)) ⊎ ((z ≤ way.end) × (seen' ≡ seen)) → seen' ≡ z
+      low : ((way.end < z) × (seen' ≡ Some way.end)) ⊎ ((z ≤ way.end) × (seen' ≡ seen)) → seen' ≡ None
           → (x : ℕ) → mem x (way.end ∷ s.past) ≡ true → z ≤ x
-      low (inl q) u = λ x m. absurd (omega arith)
+      low (inl q) u = absurd (some_none (sym q.1 ∙ u))
       low (inr q) u = mem_more (λ x. z ≤ x) way.end s.past q.0 (p.low (sym q.1 ∙ u))
 
       onward : {x : ℕ} (y : ℕ) → (way.end ≡ x) ⊎ (mem x s.past ≡ true) → 0 < w x y

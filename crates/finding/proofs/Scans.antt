@@ -1,34 +1,34 @@
--- The scan over cells and their slots for the first step of a rule. In order: what a slot shows (`slot_leaf`); the
--- slots of a cell (`unmet_on`, `unmet_end`); the cells (`Barren`, `scan_none`, `scan_some`); a scan that leaves out
--- cells below a bound (`from_bound`, `from_low`); the first step of all rules (`first_leaf`, `first_ring`,
--- `first_chain`).
+-- The first step of a rule. In order: what a slot shows (`none_at_slot`); the slots of a cell (`unmet_on`,
+-- `unmet_end`); the cells (`Barren`, `scan_none`, `scan_some`); a leaf, by its degree (`leaf_found`, `leaf_none`,
+-- `leaf_some`); a scan that leaves out cells below a bound (`from_bound`, `from_low`); the first step of all rules
+-- (`leaf_first`, `first_ring`, `first_chain`).
 use mathlib.Core.Path.{◌≡◌, refl, sym, ap, ap₂, subst, ◌∙◌, fun_ext}
-use mathlib.Core.Logic.{inl, inr, ◌≢◌}
+use mathlib.Core.Logic.{◌≢◌}
 use mathlib.Core.Bool.{Bool}
 use mathlib.Core.List.{List}
 use mathlib.Core.Option.{Option, some, none}
-use Rattle.std.specs.Prelude.{Option as Perhaps, Some, None}
-use Prim.Native.Nat.{ℕ, suc, ◌+◌, ◌-◌, ◌≤◌, ◌<◌}
+use Rattle.std.specs.Prelude.{Option as Perhaps, Some, None, MatchOption}
+use Prim.Native.Nat.{ℕ, suc, ◌+◌, ◌-◌, ◌≤◌, ◌<◌, max}
 use native.Mathlib.Omega.{arith}
+use Rattle.matching.specs.Pairs.{Points}
 use Rattle.matching.specs.Graph.{Graph, degree}
 use Rattle.matching.specs.Steps.{Rule, by_leaf, by_ring, by_chain, Step, leaf, ring, chain}
 use Rattle.matching.specs.Shapes.{IsStep}
 use Rattle.matching.specs.Find.{or_else, search, step_at, first_step_of}
 use Rattle.matching.proofs.Tests.{Test, pass, fail, eq_test, lt_test}
 use Rattle.matching.proofs.Members.{clash}
-use Rattle.matching.proofs.Pairs.{Same}
-use Rattle.matching.proofs.Put.{pair_apart}
 use Rattle.matching.proofs.Search.{Searched, searched, search_first, search_nothing}
 use Rattle.matching.proofs.Find.{step_found, step_none}
 use Rattle.matching.proofs.More.{first_more}
 use Rattle.cellfile.specs.Answers.{Answer}
-use Rattle.slots.specs.Slots.{Holds, graph_of, Joins}
-use Rattle.slots.specs.Found.{LastSlot}
+use Rattle.slots.specs.Slots.{Holds, graph_of}
+use Rattle.slots.specs.Found.{LastSlot, Only}
+use Rattle.slots.specs.declared.read.Other.{Other}
 use Rattle.slots.proofs.Graphs.{holds_graph}
-use Rattle.slots.proofs.Holding.{joins_pair, joins_one}
+use Rattle.slots.proofs.Holding.{joins_pair}
 use Rattle.slots.proofs.Scanning.{joins_turned, joins_some, joins_has, slots_on}
-use Rattle.finding.specs.Finding.{told, to_tell, Finds, MayFind, named_degree, step_from, Unnamed, StepAtSlot}
-use Rattle.finding.specs.Finding.{FindsAt, Unmet, Quiet}
+use Rattle.finding.specs.Finding.{told, to_tell, Finds, MayFind, step_from, Unnamed, StepAtSlot}
+use Rattle.finding.specs.Finding.{FindsAt, Unmet, NoLeaf, FirstLeaf, Quiet}
 use Rattle.finding.specs.declared.Found.{Found}
 use Rattle.finding.specs.declared.Step as declared
 use Rattle.finding.specs.declared.Step.TheVariants as found
@@ -46,39 +46,11 @@ told_some (found.Chain u v z) none e = absurd (omega (arith, ap (λ (x : Answer)
 module _ {e : ℕ} {w1 w2 : List ℕ} (h : Holds e w1 w2) where
   -- ---- what a slot shows
 
-  pub slot_leaf : {c f i : ℕ} → Joins e w1 i c f → degree 1024 (graph_of e w1) c ≡ 1
-      → FindsAt e w1 by_leaf c i (Some (record { step = found.Leaf c f; first = f; slot = i }))
-  slot_leaf {c} {f} j one = record {
-    found = some (leaf f c);
-    is = (refl, record { one = one; pair = joins_pair h j });
-    finds = record { step = refl; way = joins_turned j };
-  }
-
-  -- a slot joins a cell with one other
-  pub joins_same : {i c f f' : ℕ} → Joins e w1 i c f → Joins e w1 i c f' → f ≡ f'
-  joins_same {i} {c} {f} {f'} j k = go (joins_one j k)
-    where
-      go : Same c f c f' → f ≡ f'
-      go (inl q) = sym q.1
-      go (inr q) = absurd (pair_apart (holds_graph h) c f (joins_pair h j) q.0)
-
   -- where nothing is found, none is met
   pub none_at_slot : {r : Rule} {c i : ℕ} → FindsAt e w1 r c i None → StepAtSlot e w1 r c i none
   none_at_slot {r} {c} {i} a = subst (StepAtSlot e w1 r c i) a.finds a.is
 
   -- ---- the slots of a cell
-
-  step_degree : (r : Rule) (c : ℕ) (s : Step) → IsStep 1024 (graph_of e w1) r c s
-      → degree 1024 (graph_of e w1) c ≡ named_degree r
-  step_degree by_leaf c (ring u z inner) p = elim p [ ]
-  step_degree by_leaf c (chain u v z inner) p = elim p [ ]
-  step_degree by_ring c (leaf u v) p = elim p [ ]
-  step_degree by_ring c (chain u v z inner) p = elim p [ ]
-  step_degree by_chain c (leaf u v) p = elim p [ ]
-  step_degree by_chain c (ring u z inner) p = elim p [ ]
-  step_degree by_leaf c (leaf u v) p = rw (← p.0) p.1.one
-  step_degree by_ring c (ring u z inner) p = rw (← p.0) (p.1.row.two z p.1.low.here)
-  step_degree by_chain c (chain u v z inner) p = rw (← p.0) (p.1.row.two z p.1.low.here)
 
   module _ {r : Rule} {c k : ℕ} (n : Unmet e w1 r c (suc k)) where
     -- slot k shows none either
@@ -141,6 +113,39 @@ module _ {e : ℕ} {w1 w2 : List ℕ} (h : Holds e w1 w2) {r : Rule} {from c : �
           (λ j m. barren_none j (omega arith))))
           finds
 
+-- ---- the leaves
+
+-- the first leaf from `from` to before `to`
+pub leaf_found : (w : Points) (from to : ℕ) (r : Perhaps ℕ)
+    → MatchOption r (NoLeaf w from to) (λ c. (from ≤ c) × (c < to) × (degree 1024 w c ≡ 1) × NoLeaf w from c)
+    → FirstLeaf w from to r
+leaf_found w from to None m = m
+leaf_found w from to (Some c) m = m
+
+leaf_degree : (w : Points) (c : ℕ) (s : Step) → IsStep 1024 w by_leaf c s → degree 1024 w c ≡ 1
+leaf_degree w c (leaf u v) p = rw (← p.0) p.1.one
+leaf_degree w c (ring u z inner) p = elim p [ ]
+leaf_degree w c (chain u v z inner) p = elim p [ ]
+
+module _ {e : ℕ} {w1 w2 : List ℕ} (h : Holds e w1 w2) (from to : ℕ) where
+  pub leaf_none : NoLeaf (graph_of e w1) from to → MayFind e w1 (step_from (graph_of e w1) by_leaf from to) None
+  leaf_none f = scan_none h {c = max from to}
+      (record { low = omega arith; none_at = not_there }) (omega arith)
+    where
+      not_there : (c : ℕ) → from ≤ c → c < max from to → (s : Step) → IsStep 1024 (graph_of e w1) by_leaf c s → ⊥
+      not_there c a l s p = f c a (omega arith) (leaf_degree _ c s p)
+
+  pub leaf_some : {c : ℕ} → FirstLeaf (graph_of e w1) from to (Some c) → {x : Other} → Only e w1 c x
+      → Finds e w1 (step_from (graph_of e w1) by_leaf from to)
+      (record { step = found.Leaf c x.partner; first = x.partner; slot = x.slot })
+  leaf_some {c} f {x} o =
+      scan_some h (record { low = f.0; none_at = λ k a l s p. f.3 k a l (leaf_degree _ k s p) }) {i = x.slot} f.1
+      (record {
+        found = some (leaf x.partner c);
+        is = (refl, record { one = f.2; pair = joins_pair h o.joins });
+        finds = record { step = refl; way = joins_turned o.joins };
+      })
+
 -- ---- the first step of all
 
 from_zero : (e : ℕ) (w1 : List ℕ) (r : Rule) (n : ℕ)
@@ -180,7 +185,7 @@ from_bound {e} {w1} h r low n q x =
 -- below `low` no cell is a leaf
 pub from_low : {e : ℕ} {w1 w2 : List ℕ} → Holds e w1 w2 → (low n : ℕ) → Quiet low (graph_of e w1) → (x : Perhaps Found)
     → MayFind e w1 (step_from (graph_of e w1) by_leaf low n) x → MayFind e w1 (step_from (graph_of e w1) by_leaf 0 n) x
-from_low h low n q x = from_bound h by_leaf low n (λ c l s p. q c l (step_degree h by_leaf c s p)) x
+from_low h low n q x = from_bound h by_leaf low n (λ c l s p. q c l (leaf_degree _ c s p)) x
 
 -- the three searches in their order
 in_order : (e : ℕ) (w1 : List ℕ) (n : ℕ) → Graph n (graph_of e w1) → n ≤ 1024 → first_step_of n (graph_of e w1)
@@ -197,9 +202,9 @@ first_of {e} {w1} {o} p {x} f =
     subst (λ (y : Option Step). Finds e w1 y x) (t.1 ∙ ap (λ (y : Option Step). or_else y p) (sym t.1)) f
 
 module _ (e : ℕ) (w1 : List ℕ) (n : ℕ) (g : Graph n (graph_of e w1)) (le : n ≤ 1024) where
-  pub first_leaf : {x : Found} → Finds e w1 (step_from (graph_of e w1) by_leaf 0 n) x
+  pub leaf_first : {x : Found} → Finds e w1 (step_from (graph_of e w1) by_leaf 0 n) x
       → Finds e w1 (first_step_of n (graph_of e w1)) x
-  first_leaf {x} a = subst (λ (o : Option Step). Finds e w1 o x) (sym (in_order e w1 n g le)) (first_of _ a)
+  leaf_first {x} a = subst (λ (o : Option Step). Finds e w1 o x) (sym (in_order e w1 n g le)) (first_of _ a)
 
   module _ (no_leaf : step_from (graph_of e w1) by_leaf 0 n ≡ none) where
     abbrev chains : Option Step

@@ -5,7 +5,7 @@ use Rattle.std.specs.Prelude.{Option as Perhaps, Some, None}
 use Rattle.std.proofs.Math.Option.{Option, some, none}
 use Rattle.matching.specs.Pairs.{Points, touches}
 use Rattle.matching.specs.Graph.{degree}
-use Rattle.matching.specs.Steps.{Rule, by_leaf, by_ring, by_chain, Step, leaf, ring, chain}
+use Rattle.matching.specs.Steps.{Rule, by_ring, Step, leaf, ring, chain}
 use Rattle.matching.specs.Shapes.{IsStep, first, last}
 use Rattle.matching.specs.Find.{search, step_at}
 use Rattle.cellfile.specs.Answers.{Answer}
@@ -60,15 +60,17 @@ as_step (found.Chain u v z) inner = chain u v z (inner u)
 abbrev pub step_of : Points → Found → Step
 step_of w x = as_step x.step (λ u. (row_at w u x.first).0)
 
--- The degree of the cell that a rule's step names.
-abbrev pub named_degree : Rule → ℕ
-named_degree by_leaf = 1
-named_degree by_ring = 2
-named_degree by_chain = 2
-
 -- The first step of a rule at the cells from `from` to before `to`.
 abbrev pub step_from : Points → Rule → ℕ → ℕ → Option Step
 step_from w r from to = search (λ i. step_at 1024 w r (from + i)) (to - from)
+
+-- No cell from `from` to before `to` is a leaf; the first leaf there, or there is none.
+abbrev pub NoLeaf : Points → ℕ → ℕ → Type 0
+NoLeaf w from to = (c : ℕ) → from ≤ c → c < to → degree 1024 w c ≢ 1
+
+abbrev pub FirstLeaf : Points → ℕ → ℕ → Perhaps ℕ → Type 0
+FirstLeaf w from to None = NoLeaf w from to
+FirstLeaf w from to (Some c) = (from ≤ c) × (c < to) × (degree 1024 w c ≡ 1) × NoLeaf w from c
 
 -- ---- inner contracts
 
@@ -120,11 +122,11 @@ pub record FindsAt (e : ℕ) (w1 : List ℕ) (r : Rule) (c i : ℕ) (x : Perhaps
   pub is : StepAtSlot e w1 r c i found
   pub finds : MayFind e w1 found x
 
--- No step is met by the slots of c from i on; slot i - 1 has c, which has the degree that the rule asks for.
+-- No step is met by the slots of c from i on; slot i - 1 has c, which has degree two.
 pub record Unmet (e : ℕ) (w1 : List ℕ) (r : Rule) (c i : ℕ) : Type 0 where
   pub top : i ≤ e
   pub has : (k : ℕ) → i ≡ suc k → touches c (low_of w1 k) (high_of w1 k) ≡ true
-  pub fits : (k : ℕ) → i ≡ suc k → degree 1024 (graph_of e w1) c ≡ named_degree r
+  pub fits : (k : ℕ) → i ≡ suc k → degree 1024 (graph_of e w1) c ≡ 2
   pub past : (j : ℕ) → i ≤ j → StepAtSlot e w1 r c j none
 
 -- ---- the bounds of the search

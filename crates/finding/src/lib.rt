@@ -1,7 +1,7 @@
 // Inner, for the reduction: finds a step on the working graph. See specs/Walks and specs/Finding.
 #![tactic(auto)]
 
-ghost use Rattle.std.specs.Prelude.{◌≡◌, ◌⊎◌, ◌≢◌, true, ◌<◌, ◌≤◌};
+ghost use Rattle.std.specs.Prelude.{◌≡◌, ◌⊎◌, ◌≢◌, true, ◌<◌, ◌≤◌, None};
 ghost use Rattle.matching.specs.Pairs.{touches};
 ghost use Rattle.matching.specs.Graph.{Graph, degree};
 ghost use Rattle.matching.specs.Steps.{by_leaf};
@@ -10,8 +10,8 @@ ghost use Rattle.slots.specs.Slots.{low_of, high_of, name_of, Joins};
 ghost use Rattle.slots.specs.Found.{SlotOf};
 ghost use Rattle.slots.specs.Working.{graph_in};
 ghost use Rattle.finding.specs.Walks.{stretch_at, Onward, Stops};
-ghost use Rattle.finding.specs.Finding.{named_degree, step_from, Tells, RingTest, ChainTest, MayFind, FindsBy, FindsAt};
-ghost use Rattle.finding.specs.Finding.{Unmet, Unnamed, Quiet, RingQuiet};
+ghost use Rattle.finding.specs.Finding.{step_from, Tells, RingTest, ChainTest, MayFind, FindsBy, FindsAt};
+ghost use Rattle.finding.specs.Finding.{FirstLeaf, Unmet, Unnamed, Quiet, RingQuiet};
 ghost use Rattle.cellfile.specs.Kinds.{as_rule};
 
 use cellfile::format::Rule;
@@ -153,44 +153,26 @@ fn row_by(graph: &WorkingGraph, rule: Rule, way: Stop) -> Option<Found>
     })
 }
 
-// The step of a rule at c that is met by slot i, which has c.
-fn step_by(graph: &WorkingGraph, rule: Rule, c: usize, i: usize) -> Option<Found>
-    requires { (c < 1024) × (i < graph.now.slots)
-        × (touches c (low_of graph.now.w1.now i) (high_of graph.now.w1.now i) ≡ true)
-        × (degree 1024 (graph_in graph.now) c ≡ named_degree (as_rule rule)) }
-    ensures { FindsAt graph.now.slots graph.now.w1.now (as_rule rule) c i result }
+// The ring or the chain at z that is met by slot i, which has z.
+fn row_by_slot(graph: &WorkingGraph, rule: Rule, z: usize, i: usize) -> Option<Found>
+    requires { (z < 1024) × (i < graph.now.slots)
+        × (touches z (low_of graph.now.w1.now i) (high_of graph.now.w1.now i) ≡ true)
+        × (as_rule rule ≢ by_leaf) × (degree 1024 (graph_in graph.now) z ≡ 2) }
+    ensures { FindsAt graph.now.slots graph.now.w1.now (as_rule rule) z i result }
 {
     if graph.w1[i] == 0 {
         return None;
     }
-    let way = way_out(graph, c, i);
-    match rule {
-        Rule::Leaf => Some(Found {
-            step: Step::Leaf { v: c, u: way.end },
-            first: way.end,
-            slot: i,
-        }),
-        Rule::Ring | Rule::Chain => row_by(graph, rule, way),
-    }
-}
-
-// The degree of the cell that a rule's step names.
-fn degree_of(rule: Rule) -> u64
-    ensures { result ≡ named_degree (as_rule rule) }
-{
-    match rule {
-        Rule::Leaf => 1,
-        Rule::Ring | Rule::Chain => 2,
-    }
+    row_by(graph, rule, way_out(graph, z, i))
 }
 
 // Whether z is ruled out where the two ways out of it have met, so that its row is a ring of cells of degree two: there
 // is no chain then, and a ring is not named by its lowest cell. One way came from `last`, where the other goes on:
 // `next`.
-fn ring_rules_out(rule: Rule, z: usize, seen: usize, last: usize, next: usize) -> bool
-    ensures { result ≡ true → (next ≡ last) × ((rule ≢ Rule.Ring) ⊎ (seen ≡ z)) }
+fn ring_rules_out(rule: Rule, seen: Option<usize>, last: usize, next: usize) -> bool
+    ensures { result ≡ true → (next ≡ last) × ((rule ≢ Rule.Ring) ⊎ (seen ≡ None)) }
 {
-    next == last && (rule != Rule::Ring || seen == z)
+    next == last && (rule != Rule::Ring || seen.is_none())
 }
 
 // Whether the row of z shows that no ring and no chain is named by z, where `first` is a way out of z. Both ways are
@@ -204,22 +186,22 @@ fn ruled_out(graph: &WorkingGraph, rule: Rule, first: Stop) -> bool
     let z = first.last;
     let mut way = first;
     let mut other = onward(graph, first.turned());
-    let mut seen = z;
+    let mut seen = None;
     for _ in 0..2 * CELLS {
         if way.end == other.last {
-            return ring_rules_out(rule, z, seen, way.last, other.end);
+            return ring_rules_out(rule, seen, way.last, other.end);
         }
         if graph.degree(way.end) != 2 {
-            return seen != z;
+            return seen.is_some();
         }
         if way.end < z {
             if rule != Rule::Ring {
                 return true;
             }
-            if seen != z && seen != way.end {
-                return true;
+            match seen {
+                Some(lower) if lower != way.end => return true,
+                _ => seen = Some(way.end),
             }
-            seen = way.end;
         }
         let on = onward(graph, way);
         way = other;
@@ -228,45 +210,79 @@ fn ruled_out(graph: &WorkingGraph, rule: Rule, first: Stop) -> bool
     false
 }
 
-// The last live slot of c, where c has the degree that the rule asks for and is not ruled out.
-fn start(graph: &WorkingGraph, rule: Rule, c: usize) -> Option<usize>
-    requires { c < 1024 }
-    ensures { Unmet graph.now.slots graph.now.w1.now (as_rule rule) c (name_of result) }
+// The last live slot of z, where z has degree two and is not ruled out.
+fn start(graph: &WorkingGraph, rule: Rule, z: usize) -> Option<usize>
+    requires { (z < 1024) × (as_rule rule ≢ by_leaf) }
+    ensures { Unmet graph.now.slots graph.now.w1.now (as_rule rule) z (name_of result) }
 {
-    if graph.degree(c) != degree_of(rule) {
+    if graph.degree(z) != 2 {
         return None;
     }
-    let mut next = graph.last_slot(c);
+    let mut next = graph.last_slot(z);
     while let Some(i) = next {
         if graph.w1[i] != 0 {
-            if rule != Rule::Leaf && ruled_out(graph, rule, way_out(graph, c, i)) {
+            if ruled_out(graph, rule, way_out(graph, z, i)) {
                 return None;
             }
             return Some(i);
         }
-        next = graph.slot_before(c, i);
+        next = graph.slot_before(z, i);
     }
     None
 }
 
-// The first step of a rule at the cells from `from` to before `to`: it is the first that is allowed.
+// The first cell of degree one from `from` to before `to`.
+pub fn first_leaf(graph: &WorkingGraph, from: usize, to: usize) -> Option<usize>
+    requires { to ≤ 1024 }
+    ensures { FirstLeaf (graph_in graph.now) from to result }
+{
+    (from..to).find(|&c| graph.degree(c) == 1)
+}
+
+// The first leaf step at the cells from `from` to before `to`: a leaf has one pair, so no slots are gone over.
+fn leaf_step(graph: &WorkingGraph, from: usize, to: usize) -> Option<Found>
+    requires { to ≤ 1024 }
+    ensures { MayFind graph.now.slots graph.now.w1.now (step_from (graph_in graph.now) by_leaf from to) result }
+{
+    let v = first_leaf(graph, from, to)?;
+    let only = graph.only(v);
+    Some(Found {
+        step: Step::Leaf { v, u: only.partner },
+        first: only.partner,
+        slot: only.slot,
+    })
+}
+
+// The first ring or chain step there: it is the first that is allowed.
+fn row_step(graph: &WorkingGraph, rule: Rule, from: usize, to: usize) -> Option<Found>
+    requires { (to ≤ 1024) × (as_rule rule ≢ by_leaf) }
+    ensures { MayFind graph.now.slots graph.now.w1.now
+        (step_from (graph_in graph.now) (as_rule rule) from to) result }
+{
+    let mut found = None;
+    'search: for z in from..to {
+        let mut next = start(graph, rule, z);
+        while let Some(i) = next {
+            if let Some(step) = row_by_slot(graph, rule, z, i) {
+                found = Some(step);
+                break 'search;
+            }
+            next = graph.slot_before(z, i);
+        }
+    }
+    found
+}
+
+// The first step of a rule at the cells from `from` to before `to`.
 pub fn scan(graph: &WorkingGraph, rule: Rule, from: usize, to: usize) -> Option<Found>
     requires { to ≤ 1024 }
     ensures { MayFind graph.now.slots graph.now.w1.now
         (step_from (graph_in graph.now) (as_rule rule) from to) result }
 {
-    let mut found = None;
-    'search: for c in from..to {
-        let mut next = start(graph, rule, c);
-        while let Some(i) = next {
-            if let Some(step) = step_by(graph, rule, c, i) {
-                found = Some(step);
-                break 'search;
-            }
-            next = graph.slot_before(c, i);
-        }
+    match rule {
+        Rule::Leaf => leaf_step(graph, from, to),
+        Rule::Ring | Rule::Chain => row_step(graph, rule, from, to),
     }
-    found
 }
 
 // The step that reduce takes: a leaf at the lowest cell; without one a ring; without one a chain. No cell below `low`
@@ -276,11 +292,11 @@ pub fn first_step(graph: &WorkingGraph, n: usize, low: usize, rings: usize) -> O
         × RingQuiet rings (graph_in graph.now) }
     ensures { MayFind graph.now.slots graph.now.w1.now (first_step_of n (graph_in graph.now)) result }
 {
-    if let Some(leaf) = scan(graph, Rule::Leaf, low, n) {
+    if let Some(leaf) = leaf_step(graph, low, n) {
         return Some(leaf);
     }
-    if let Some(ring) = scan(graph, Rule::Ring, rings, n) {
+    if let Some(ring) = row_step(graph, Rule::Ring, rings, n) {
         return Some(ring);
     }
-    scan(graph, Rule::Chain, 0, n)
+    row_step(graph, Rule::Chain, 0, n)
 }

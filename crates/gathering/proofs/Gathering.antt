@@ -417,13 +417,6 @@ pub record RowsTo (w : Points) (cs : List ℕ) (k i : ℕ) (w2 w2' : List ℕ) :
   pub only : Only at_points at_places w2 w2'
 
 module _ {w : Points} {cs : List ℕ} {k : ℕ} {w1 w2 : List ℕ} (p : PlacesThere w cs k w1 w2) where
-  pub rows_none : RowsTo w cs k 0 w2 w2
-  rows_none = record {
-    points = λ h j l m b. absurd (omega arith);
-    light = p.light;
-    only = only_none at_points at_places w2;
-  }
-
   module _ {i : ℕ} {w2' : List ℕ} (g : RowsTo w cs k i w2 w2') where
     pub rows_there : PlacesThere w cs k w1 w2'
     rows_there = record {

@@ -184,10 +184,6 @@ module _ (n : ℕ) (w : Points) (a : ℕ) where
 
 -- ---- where a run ends
 
--- The lower cells of the rows from i on and before j are a.
-abbrev pub Owned : ℕ → ℕ → ℕ → List ℕ → Type 0
-Owned i j a w1 = (x : ℕ) → i ≤ x → x < j → get_or w1 (at_cells + x) 0 ≡ a
-
 -- behind the rows from the start of the run on whose lower cell is its own
 pub run_ends : (n : ℕ) (w : Points) {a r j : ℕ} {w1 : List ℕ} → RowsOf (short_list n w) r w1 → a < n
     → RunEnd (length (short_below n w a)) r a w1 j → j ≡ length (short_below n w (suc a))

@@ -15,12 +15,9 @@ fn run_end(w1: &[u64], i: usize, r: usize, a: usize) -> usize
     requires { (8192 ≤ length w1.now) × (i ≤ r) × (r ≤ 4096) }
     ensures { RunEnd i r a w1.now result }
 {
-    for j in i..r {
-        if w1[CELL_WORDS + j] != a as u64 {
-            return j;
-        }
-    }
-    r
+    (i..r)
+        .find(|&j| w1[CELL_WORDS + j] != a as u64)
+        .unwrap_or(r)
 }
 
 // Where the run of the rows of each of n cells starts, among r rows.

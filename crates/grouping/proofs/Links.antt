@@ -1,8 +1,8 @@
 -- The cells of a class linked behind its first cell. In order: those of some cells that are not below k, and links that
 -- stay where the words of their cells do (`leads_kept`); the cell that a number names (`named_some`); one cell more,
 -- which stays as it is (`link_none`, `link_own`) or is put behind the first cell (`link_put`); the cells one by one
--- (`Linking`); the labels after levelling are ready (`link_there`), and at the end the links lead from a first cell over
--- its class (`linked_class`). Assumes nothing.
+-- (`Linking`); the labels after levelling are ready (`link_there`), and at the end the links lead from a first cell
+-- over its class (`linked_class`). Assumes nothing.
 use mathlib.Core.Path.{◌≡◌, refl, sym, ap, subst, ◌∙◌}
 use mathlib.Core.Logic.{◌⊎◌, inl, inr, ◌≢◌}
 use mathlib.Core.Bool.{Bool, true, false, cond}

@@ -1,11 +1,10 @@
--- What cells and slots show. In order: the first leaf (`first_of`); a leaf of u (`due_here`); a live slot of u
+-- What cells and slots show. In order: no leaf below a cell (`quiet_to`); a leaf of u (`due_here`); a live slot of u
 -- (`stays_on`); the loop over the slots of u: what holds of the slots passed (`Slacks`): how it passes a slot
 -- (`slacks_on`), and what it shows at its end (`slacks_end`). Assumes nothing.
 use mathlib.Core.Path.{◌≡◌, refl, sym, ap, ◌∙◌}
 use mathlib.Core.Logic.{◌≢◌}
 use mathlib.Core.Bool.{Bool, true}
 use mathlib.Core.List.{List, [], ◌∷◌}
-use Rattle.std.specs.Prelude.{Option, Some, None, MatchOption}
 use Prim.Native.Nat.{ℕ, suc, ◌+◌, ◌-◌, ◌≤◌, ◌<◌, min, max}
 use native.Mathlib.Omega.{arith}
 use lib.ListN.{get_or}
@@ -18,24 +17,16 @@ use Rattle.slots.specs.Found.{LastSlot, Only}
 use Rattle.slots.specs.declared.read.Other.{Other}
 use Rattle.slots.proofs.Graphs.{joins_points}
 use Rattle.slots.proofs.Scanning.{slot_joins, joins_turned, joins_some, joins_has, slots_on}
-use Rattle.finding.specs.Finding.{Quiet}
-use Rattle.leaves.specs.Runs.{FirstLeaf, NotAbove, Slack, LeafOf}
+use Rattle.finding.specs.Finding.{NoLeaf, Quiet}
+use Rattle.leaves.specs.Runs.{NotAbove, Slack, LeafOf}
 
--- the first leaf from `low` on
-pub first_of : (n low : ℕ) (w : Points) → Quiet low w → (r : Option ℕ)
-    → MatchOption r ((k : ℕ) → low ≤ k → k < n → degree 1024 w k ≢ 1)
-    (λ i. (low ≤ i) × (i < n) × (degree 1024 w i ≡ 1) × ((k : ℕ) → low ≤ k → k < i → degree 1024 w k ≢ 1))
-    → FirstLeaf n w r
-first_of n low w q None m = λ c l. go c l (lt_test c low)
+-- no cell below n is a leaf
+pub quiet_to : (w : Points) {low n : ℕ} → Quiet low w → NoLeaf w low n → Quiet n w
+quiet_to w {low} {n} q m = λ c l. go c l (lt_test c low)
   where
     go : (c : ℕ) → c < n → {t : Bool} → Test (c < low) (low ≤ c) t → degree 1024 w c ≢ 1
     go c l (pass b) = q c b
     go c l (fail b) = m c b l
-first_of n low w q (Some i) m = (m.1, (λ c l. go c l (lt_test c low)), m.2)
-  where
-    go : (c : ℕ) → c < i → {t : Bool} → Test (c < low) (low ≤ c) t → degree 1024 w c ≢ 1
-    go c l (pass b) = q c b
-    go c l (fail b) = m.3 c b l
 
 -- the only pair of c is with u
 pub due_here : {e : ℕ} {w1 w2 : List ℕ} → Holds e w1 w2 → {u c : ℕ} {r : Other} → Only e w1 c r → r.partner ≡ u

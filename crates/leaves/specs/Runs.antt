@@ -17,11 +17,6 @@ use Rattle.leaves.specs.declared.Due.TheVariants.{Nothing, Points as due_points,
 use Rattle.leaves.specs.declared.LeafRun.{LeafRun}
 use Rattle.leaves.specs.declared.places.Room.{Room}
 
--- The first leaf below n, or there is none.
-abbrev pub FirstLeaf : ℕ → Points → Perhaps ℕ → Type 0
-FirstLeaf n w None = Quiet n w
-FirstLeaf n w (Some c) = (c < n) × Quiet c w × (degree 1024 w c ≡ 1)
-
 -- r is not above the points of slot i, where it joins u with a cell that is no leaf.
 abbrev pub NotAbove : ℕ → List ℕ → ℕ → ℕ → ℕ → Type 0
 NotAbove e w1 u i r = (f : ℕ) → Joins e w1 i u f → degree 1024 (graph_of e w1) f ≢ 1 → r ≤ get_or w1 i 0

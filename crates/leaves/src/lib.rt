@@ -13,22 +13,15 @@ ghost use Rattle.matching.specs.Graph.{Graph};
 ghost use Rattle.slots.specs.Slots.{low_of, high_of};
 ghost use Rattle.slots.specs.Working.{graph_in};
 ghost use Rattle.finding.specs.Finding.{Quiet};
-ghost use Rattle.leaves.specs.Runs.{FirstLeaf, KeptPoints, Slack, DueThere, LeafRunThere, Noted, Owes, Taken};
+ghost use Rattle.leaves.specs.Runs.{KeptPoints, Slack, DueThere, LeafRunThere, Noted, Owes, Taken};
 
 use buffers::map;
 use cellfile::format::Rule;
+use finding;
 use finding::Step;
 pub use places::Room;
 use slots::graph::WorkingGraph;
 use trail::words;
-
-// The first cell from `low` on that is a leaf. No cell below `low` is one.
-fn first_leaf(graph: &WorkingGraph, n: usize, low: usize) -> Option<usize>
-    requires { (n ≤ 1024) × Quiet low (graph_in graph.now) }
-    ensures { FirstLeaf n (graph_in graph.now) result }
-{
-    (low..n).find(|&c| graph.degree(c) == 1)
-}
 
 // The points of slot i, which has u, where its other cell has more pairs than this.
 fn kept(graph: &WorkingGraph, u: usize, i: usize) -> Option<u64>
@@ -173,7 +166,7 @@ pub fn leaf_run(graph: &mut WorkingGraph, n: usize, low: usize, room: Room) -> L
     if room.most == 0 {
         return none;
     }
-    let Some(c) = first_leaf(graph, n, low) else {
+    let Some(c) = finding::first_leaf(graph, low, n) else {
         return LeafRun { low: n, ..none };
     };
     let u = graph.only(c).partner;

@@ -43,8 +43,10 @@ module _ {n t count : ℕ} {w2 : List ℕ} (h : TrailThere n t count w2) where
       → length v2 ≡ length w2 → TrailKept w2 v2 → Pairing (after h) m → Mates v2 all_short m
       → ReturnThere n t count w1 v2
   return_there w1 v2 m room1 room2 same kept is mates = record {
+    room2 = omega (arith, room2, same);
     back = record {
-      rooms = record { room1 = room1; room2 = omega (arith, room2, same); most = h.most };
+      room1 = room1;
+      most = h.most;
       n = n;
       w = h.w;
       steps = h.steps;
@@ -56,7 +58,7 @@ module _ {n t count : ℕ} {w2 : List ℕ} (h : TrailThere n t count w2) where
       graph = h.graph;
       allowed = h.allowed;
       small = h.small;
-      trail = words_same 0 t w2 v2 kept (omega (arith, h.most)) room2 same ∙ h.trail;
+      trail = words_same 0 t w2 v2 kept (omega (arith, h.most)) room2 (omega (arith, room2, same)) ∙ h.trail;
       pairing = is;
       mates = mates;
     };

@@ -1,5 +1,5 @@
--- Lift. In order: refusal 10 of a pairing (`ten_refused`), and the pairing in the table with the trail (`ten_there`,
--- `ten_passed`); refusal 9 (`nine_refused`, `nine_passed`);
+-- Lift. In order: refusal 10 of a pairing, and the pairing in the table with the trail (`ten_there`, `ten_passed`);
+-- refusal 9 (`nine_refused`, `nine_passed`);
 -- the first part of the call leaves a trail (`start_there`), and what is brought back over it is what lift is to write
 -- (`lift_passed`). Assumes nothing.
 use mathlib.Core.Path.{◌≡◌, refl, sym, ap, subst, ◌∙◌}
@@ -28,7 +28,7 @@ use Rattle.checks.specs.declared.Refusal.{Refusal}
 use Rattle.checks.specs.Answering.{Does}
 use Rattle.starting.specs.Starting.{StartDone}
 use Rattle.starting.specs.declared.Started.{Started}
-use Rattle.checks.proofs.Answering.{refused, passed}
+use Rattle.checks.proofs.Answering.{refused_by, passed}
 use Rattle.starting.proofs.OnList.{list_graph}
 use Rattle.lifting.specs.Calls.{lift_rows, lift_file, lift_origins, lifted_file, lifted_origins}
 use Rattle.lifting.specs.Calls.{graph_after}
@@ -51,10 +51,6 @@ module _ {n e t count : ℕ} {w1 w2 : List ℕ} (h : TailThere n e t count w1 w2
   -- of what the steps leave
   held_is : {k : ℕ} → k ≡ first (hold_row (graph_of e w1) pairing ∷ []) → k ≡ first ten
   held_is q = q ∙ ap (λ (w : Points). first (hold_row w pairing ∷ [])) h.left_is
-
-  pub ten_refused : (r : Refusal) → number r ≡ first (hold_row (graph_of e w1) pairing ∷ []) → (out from : List ℕ)
-      → Does ten (back_files h.on pairing (out, out) (from, from)) (number r, [])
-  ten_refused r q out from = refused ten [] r (held_is q) (refl, (refl, tt))
 
   is : 0 ≡ first ten → Pairing left_graph (pairs_of pairing)
   is q =
@@ -86,7 +82,7 @@ module _ {n e t count : ℕ} {w1 w2 : List ℕ} (h : TailThere n e t count w1 w2
 
   pub nine_refused : (r : Refusal) → number r ≡ first nine → (out from : List ℕ)
       → Does (form_row n pairing ∷ ten) (back_files h.on pairing (out, out) (from, from)) (number r, [])
-  nine_refused r q out from = refused nine ten r q (refl, (refl, tt))
+  nine_refused r q out from = refused_by nine ten r q (refl, (refl, tt))
 
   pub nine_passed : 0 ≡ first nine → {out from : Change} {a : Answer} → Does ten (back_files h.on pairing out from) a
       → Does (form_row n pairing ∷ ten) (back_files h.on pairing out from) a
@@ -123,7 +119,8 @@ module _ (list slip : List ℕ) {at : Started} {w1 w2 : List ℕ}
   start_there = start
 
   pub lift_passed : (few : Bool) → 0 ≡ first (call_rows few list ++ slip_rows list slip)
-      → (pairing : List ℕ) {out from : Change} {a : Answer} → LiftsTail at.n at.slots at.trail at.steps pairing w1 w2 out from a
+      → (pairing : List ℕ) {out from : Change} {a : Answer} → LiftsTail at.n at.slots at.trail at.steps pairing w1 w2
+      out from a
       → Does (call_rows few list ++ lift_rows list slip pairing)
       ((lift_file list slip pairing, out.0, out.1) ∷ (lift_origins list slip pairing, from.0, from.1) ∷ []) a
   lift_passed few z pairing {out} {from} {a} p =

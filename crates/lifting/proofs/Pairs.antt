@@ -1,6 +1,7 @@
 -- The files that words make. In order: the length of one (`words_long`); two refused or written by the outputs' room
--- (`both_first`, `both_second`, `both_written`); the file of the pairs that the words stand for: a pairing (`pairs_file`), an origin list (`origins_file`), in which the steps' numbers have room
--- (`origins_eleven`). Assumes nothing.
+-- (`both_first`, `both_second`, `both_written`); the file of the pairs that the words stand for: a pairing
+-- (`pairs_file`), an origin list (`origins_file`), in which the steps' numbers have room (`origins_eleven`). Assumes
+-- nothing.
 use mathlib.Core.Path.{◌≡◌, refl, ap, ◌∙◌}
 use mathlib.Core.List.{List, [], ◌∷◌, map}
 use Prim.Native.Nat.{ℕ, ◌≤◌, ◌<◌}
@@ -12,7 +13,8 @@ use Rattle.matching.specs.Steps.{Step, by_leaf, by_ring, by_chain}
 use Rattle.matching.specs.Origin.{Origin, from_short, from_step, Origins, all_short, origins, number_in}
 use Rattle.matching.proofs.Alls.{all_map, each_is_all}
 use Rattle.matching.proofs.Origin.{origins_few}
-use Rattle.cellfile.specs.Files.{Layout, pairing as pairing_layout, origin_list, file_length, write_file, onto, pair_fields}
+use Rattle.cellfile.specs.Files.{Layout, pairing as pairing_layout, origin_list, file_length, write_file}
+use Rattle.cellfile.specs.Files.{onto, pair_fields}
 use Rattle.cellfile.specs.Files.{origin_fields, rule_in}
 use Rattle.cellfile.specs.Fits.{FitsFields}
 use Rattle.cellfile.specs.Words.{Plain, file_of, words_file, pair_word, word_of_origin}

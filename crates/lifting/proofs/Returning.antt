@@ -57,12 +57,11 @@ module _ {n t count : ℕ} {w1 w2 : List ℕ} (h : ReturnThere n t count w1 w2) 
   numbers : Eleven (origins b.w b.steps b.pairs)
   numbers = origins_eleven b.w b.steps b.pairs (omega (arith, b.count_is, b.few))
 
-  pub lifted_there : {v1 v2 : List ℕ} → length v1 ≡ length w1 → length v2 ≡ length w2 → Lifted t count w1 w2 v2 b
+  pub lifted_there : {v1 v2 : List ℕ} → length v1 ≡ length w1 → Lifted t count w1 w2 v2 b
       → TableThere n v1 v2 from up
-  lifted_there {v1} {v2} k1 k2 l = record {
+  lifted_there {v1} {v2} k1 l = record {
     cells = few;
-    room1 = omega (arith, b.rooms.room1);
-    room2 = omega (arith, b.rooms.room2);
+    room1 = omega (arith, b.room1);
     within = each_map (λ x y p. ((pair_below graph x y p).0, (pair_below graph x y p).1, pair_apart graph x y p)) up
         pairing.held;
     once = pairing.once;
@@ -73,7 +72,7 @@ module _ {n t count : ℕ} {w1 w2 : List ℕ} (h : ReturnThere n t count w1 w2) 
   -- the words of the pairs and of the records
   module _ {v1 : List ℕ} {r : ℕ} (k : length v1 ≡ length w1) (l : Listed from up v1 r) where
     pub lifted_fit : at_origins + r ≤ length v1
-    lifted_fit = omega (arith, b.rooms.room1, l.most)
+    lifted_fit = omega (arith, b.room1, l.most)
 
     pub pairs_many : length (take r v1) ≡ r
     pairs_many = length-take-le r v1 (omega (arith, lifted_fit))

@@ -22,7 +22,7 @@ use Rattle.checks.specs.declared.Refusal.TheVariants.{Crowded}
 use Rattle.checks.specs.Answering.{Does}
 use Rattle.starting.specs.Starting.{StartDone}
 use Rattle.starting.specs.declared.Started.{Started}
-use Rattle.checks.proofs.Answering.{refused, passed}
+use Rattle.checks.proofs.Answering.{refused_by, passed}
 use Rattle.starting.proofs.OnList.{left_there}
 use Rattle.lifting.specs.Calls.{pair_file, graph_after, solved_file, largest_after, solve_rows, solve_file, by_steps}
 use Rattle.matching.specs.Pairing.{Pairing}
@@ -48,18 +48,17 @@ module _ {n e : ℕ} {w1 w2 : List ℕ} (h : LeftThere n e w1 w2) where
   pub tail_crowded : (out : List ℕ) → 12 < largest n w
       → Does (crowded_row (largest n w) ∷ []) ((file, out, out) ∷ []) (11, [])
   tail_crowded out l =
-      refused (crowded_row (largest n w) ∷ []) [] Crowded (rw (lt-ltb 12 (largest n w) l)) (refl, tt)
+      refused_by (crowded_row (largest n w) ∷ []) [] Crowded (rw (lt-ltb 12 (largest n w) l)) (refl, tt)
 
   module _ {v : ℕ} {w2' : List ℕ} (s : SolvedIn n w w2 w2' v) where
     best : Pairing w (solution n w)
     best = (solution_heaviest n w h.graph).pairing
 
-    pub tail_table : {w1' : List ℕ} → length w1' ≡ length w1 → length w2' ≡ length w2
+    pub tail_table : {w1' : List ℕ} → length w1' ≡ length w1
         → TableThere n w1' w2' all_short (solution n w)
-    tail_table p q = record {
+    tail_table p = record {
       cells = h.cells;
       room1 = omega (arith, h.holds.room1);
-      room2 = omega (arith, h.holds.room2);
       within = each_map
           (λ a b l. (let k = pair_below h.graph a b l in (k.0, k.1, pair_apart h.graph a b l)))
           (solution n w) best.held;
@@ -117,7 +116,8 @@ module _ (list slip : List ℕ) {at : Started} {w1' w2' : List ℕ}
   solve_passed few z out {out'} {a} p =
       passed (call_rows few list ++ slip_rows list slip) (crowded_row (largest_after list slip) ∷ []) (omega arith) z
       (subst (λ k. Does (crowded_row k ∷ []) ((solve_file list slip, out, out') ∷ []) a) count
-      (subst (λ file. Does (crowded_row (largest at.n (graph_of at.slots w1')) ∷ []) ((file, out, out') ∷ []) a) same p))
+      (subst (λ file. Does (crowded_row (largest at.n (graph_of at.slots w1')) ∷ []) ((file, out, out') ∷ []) a) same
+      p))
     where
       count : largest at.n (graph_of at.slots w1') ≡ largest_after list slip
       count = graph_left largest ∙ by_steps_is 0 (λ ss. largest (cells_of list) (graph_after list ss))

@@ -22,7 +22,7 @@ use Rattle.starting.specs.declared.Started.{Started}
 use Rattle.checks.specs.Calls.{call_rows, crowded_row}
 use Rattle.checks.specs.declared.Refusal.TheVariants.{Crowded}
 use Rattle.checks.specs.Answering.{Does}
-use Rattle.checks.proofs.Answering.{refused, passed}
+use Rattle.checks.proofs.Answering.{refused_by, passed}
 use Rattle.reduction.proofs.Reducing.{reduce_allowed, reduce_after}
 use Rattle.matching.specs.Solve.{solution}
 use Rattle.matching.specs.Groups.{largest}
@@ -60,7 +60,7 @@ module _ {n e t count : ℕ} {w1 w2 : List ℕ} (p : TailThere n e t count w1 w2
       (11, [])
   tail_crowded out from l =
       let k : 12 < largest n g = subst (λ (v : Points). 12 < largest n v) p.left_is l in
-      refused (crowded_row (largest n g) ∷ []) [] Crowded (rw (lt-ltb 12 (largest n g) k)) (refl, (refl, tt))
+      refused_by (crowded_row (largest n g) ∷ []) [] Crowded (rw (lt-ltb 12 (largest n g) k)) (refl, (refl, tt))
 
   -- solved
   module _ {v : ℕ} {w2a : List ℕ} (s : SolvedIn n (graph_of e w1) w2 w2a v) where

@@ -1,5 +1,5 @@
 -- The last part of a call: a pairing and its origin list are written. Inner contracts cite this.
-use Rattle.std.specs.Prelude.{◌≡◌, List, [], ◌∷◌, ℕ}
+use Rattle.std.specs.Prelude.{◌≡◌, List, [], ◌∷◌, ℕ, ◌≤◌, length}
 use Rattle.matching.specs.Pairs.{Pair, Points}
 use Rattle.matching.specs.Steps.{Step}
 use Rattle.matching.specs.Slip.{lift}
@@ -22,6 +22,7 @@ back_to n w ss m out from =
 
 -- A pairing of what is left, and the trail of so many steps back to a graph of n cells.
 pub record ReturnThere (n t count : ℕ) (w1 w2 : List ℕ) : Type 0 where
+  pub room2 : 8192 ≤ length w2
   pub back : BackThere t count w1 w2
   pub cells_are : back.n ≡ n
   pub from_short : back.from ≡ all_short

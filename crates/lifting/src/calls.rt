@@ -18,6 +18,7 @@ use cellfile::records::Records;
 use checks;
 use checks::Refusal;
 use partners;
+use partners::table::Table;
 use slots::graph::WorkingGraph;
 use solving;
 use starting;
@@ -30,10 +31,9 @@ fn solve_tail(at: Started, w1: &mut [u64], w2: &mut [u64], out: &mut [u8]) -> Re
         ((pair_file at.n (solution at.n (graph_of at.slots w1.old)), out.old, out.new) ∷ [])
         (answered one result) }
 {
-    let Some(_) = solving::solve_left(w1, w2, at.slots, at.n) else {
-        return Err(Refusal::Crowded);
-    };
-    let r = partners::list_pairs(w1, w2, at.n);
+    solving::solve_left(w1, w2, at.slots, at.n).ok_or(Refusal::Crowded)?;
+    let table = Table { words: w2 };
+    let r = partners::list_pairs(w1, &table, at.n);
     ends::write_pairs(at.n, &w1[..r], out)
 }
 

@@ -13,6 +13,7 @@ use cellfile::write;
 use checks;
 use checks::Refusal;
 use partners;
+use partners::table::Table;
 use starting::Started;
 use undoing;
 
@@ -63,8 +64,9 @@ pub fn bring_back(
     ensures { Returns at.n at.trail at.steps w1.old w2.old (out.old, out.new)
         (origins.old, origins.new) (answered two result) }
 {
-    undoing::lift_back(w1, w2, at.trail, at.steps);
-    let r = partners::list_pairs(w1, w2, at.n);
+    let mut table = Table { words: w2 };
+    undoing::lift_back(w1, &mut table, at.trail, at.steps);
+    let r = partners::list_pairs(w1, &table, at.n);
     let words = &w1[..];
     write_both(
         at.n,

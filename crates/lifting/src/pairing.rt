@@ -25,9 +25,7 @@ fn pair_tail(
     ensures { Tails at.n at.slots at.trail at.steps w1.old w2.old (out.old, out.new)
         (origins.old, origins.new) (answered two result) }
 {
-    let Some(_) = solving::solve_left(w1, w2, at.slots, at.n) else {
-        return Err(Refusal::Crowded);
-    };
+    solving::solve_left(w1, w2, at.slots, at.n).ok_or(Refusal::Crowded)?;
     ends::bring_back(at, w1, w2, out, origins)
 }
 

@@ -11,12 +11,12 @@ use lib.Seq.{get_or-set_same, get_or-set_other}
 use Rattle.buffers.specs.Map.{at_table, partner_field}
 use Rattle.matching.specs.Pairs.{Pair, Points, sum, hit}
 use Rattle.matching.specs.Pairing.{Once, seen}
-use Rattle.matching.specs.Origin.{Origins}
+use Rattle.matching.specs.Origin.{Origin, Origins}
 use Rattle.matching.proofs.Tests.{Test, pass, fail, eq_test}
 use Rattle.matching.proofs.Sums.{ι_is, hit_some}
 use Rattle.matching.proofs.Partner.{seen_left, seen_right, seen_off, seen_none}
 use Rattle.origins.specs.Stamps.{stamp_for}
-use Rattle.partners.specs.Table.{tag, joined, Mates, TableOnly}
+use Rattle.partners.specs.Table.{tag, joined, IsFrom, Mates, TableOnly}
 
 -- ---- two words of the table
 
@@ -40,8 +40,9 @@ module _ (w2 : List ℕ) (x y k l : ℕ) where
   pub two_aside : TableOnly w2 after
   two_aside j p = two_else j (λ q. omega arith) (λ q. omega arith)
 
-pub joined_aside : (w2 : List ℕ) (x y stamp : ℕ) → TableOnly w2 (joined x y stamp w2)
-joined_aside w2 x y stamp = two_aside w2 x y (y + 1 + partner_field * stamp) (x + 1 + partner_field * stamp)
+pub joined_aside : (w2 : List ℕ) (x y : ℕ) (origin : Origin) → TableOnly w2 (joined x y origin w2)
+joined_aside w2 x y origin =
+    two_aside w2 x y (y + 1 + partner_field * stamp_for origin) (x + 1 + partner_field * stamp_for origin)
 
 -- ---- a pair comes
 
@@ -56,18 +57,18 @@ module _ (w2 : List ℕ) (o : Origins) (m : List Pair) (x y : ℕ) (r : 8192 ≤
   abbrev said : ℕ → Points
   said c = seen (tag o c) c
 
-  pub mates_join : (stamp : ℕ) → (stamp_for (o x y) ≡ stamp) × (stamp_for (o y x) ≡ stamp) → Once ((x, y) ∷ m)
-      → Mates (joined x y stamp w2) o ((x, y) ∷ m)
-  mates_join stamp is once c l = go (eq_test x c) (eq_test y c)
+  pub mates_join : (origin : Origin) → IsFrom o origin x y → Once ((x, y) ∷ m)
+      → Mates (joined x y origin w2) o ((x, y) ∷ m)
+  mates_join origin is once c l = go (eq_test x c) (eq_test y c)
     where
       for_x : ℕ
-      for_x = y + 1 + 2048 * stamp
+      for_x = y + 1 + 2048 * stamp_for origin
 
       for_y : ℕ
-      for_y = x + 1 + 2048 * stamp
+      for_y = x + 1 + 2048 * stamp_for origin
 
       now : ℕ → ℕ
-      now d = get_or (joined x y stamp w2) (at_table + d) 0
+      now d = get_or (joined x y origin w2) (at_table + d) 0
 
       alone : (x ≡ c) ⊎ (y ≡ c) → sum (said c) m ≡ 0
       alone e = seen_none (tag o c) c m (omega (arith, once c, hit_some c x y e))
@@ -78,7 +79,7 @@ module _ (w2 : List ℕ) (o : Origins) (m : List Pair) (x y : ℕ) (r : 8192 ≤
           ∙ two_first w2 x y for_x for_y r p (once_apart x y m once)
           ∙ omega (
             arith,
-            is.0,
+            ap stamp_for is.0,
             ap (λ d. tag o d y) e,
             ap (λ a. said c a y) e,
             seen_left (tag o c) c y,
@@ -89,7 +90,7 @@ module _ (w2 : List ℕ) (o : Origins) (m : List Pair) (x y : ℕ) (r : 8192 ≤
           ∙ two_last w2 x y for_x for_y r q
           ∙ omega (
             arith,
-            is.1,
+            ap stamp_for is.1,
             ap (λ d. tag o d x) e,
             ap (λ b. said c x b) e,
             seen_right (tag o c) c x,

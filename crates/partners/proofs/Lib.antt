@@ -5,3 +5,4 @@ pub mod Tabled
 pub mod Lacking
 pub mod Filling
 pub mod Entering
+pub mod Held

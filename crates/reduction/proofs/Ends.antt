@@ -15,7 +15,8 @@ use Rattle.matching.specs.Steps.{Rule, by_leaf, by_ring, by_chain, Step, name}
 use Rattle.matching.proofs.Alls.{all_map}
 use Rattle.matching.proofs.Short.{EntryOf, short_entries}
 use Rattle.matching.proofs.More.{short_more}
-use Rattle.cellfile.specs.Files.{slip as slip_layout, short_list as short_layout, write_file, file_length, onto, as_fields}
+use Rattle.cellfile.specs.Files.{slip as slip_layout, short_list as short_layout, write_file, file_length}
+use Rattle.cellfile.specs.Files.{onto, as_fields}
 use Rattle.cellfile.specs.Files.{number_of}
 use Rattle.cellfile.specs.Files.{name_fields}
 use Rattle.cellfile.specs.Words.{file_of, words_file, name_word, no_entry, RowsOf, RowsFit}

@@ -13,7 +13,8 @@ ghost use Rattle.starting.specs.Steps.{reduce_steps};
 use buffers;
 use checks::Refusal;
 
-// Replays the slip on the list and writes the short list: its length. Every word of the work buffers is zero afterwards.
+// Replays the slip on the list and writes the short list: its length. Every word of the work buffers is zero
+// afterwards.
 pub fn replay(
     list: &[u8],
     slip: &[u8],
@@ -33,7 +34,8 @@ pub fn replay(
     r
 }
 
-// Reduces the list and writes the slip and the short list: their lengths. Every word of the work buffers is zero afterwards.
+// Reduces the list and writes the slip and the short list: their lengths. Every word of the work buffers is zero
+// afterwards.
 pub fn reduce(
     list: &[u8],
     work_a: &mut [u64],

@@ -1,6 +1,6 @@
 -- The loop that writes the lines of a pairing's pairs. In order: entries and pairs ahead, and the points of the first
--- pair by a search (`ahead_found`, `ahead_next`); what is written when places i and j are reached (`Reached`), at the start, after a
--- pair and at the end. Assumes nothing.
+-- pair by a search (`ahead_found`, `ahead_next`); what is written when places i and j are reached (`Reached`), at the
+-- start, after a pair and at the end. Assumes nothing.
 use mathlib.Core.Path.{◌≡◌, refl, sym, ap, subst, ◌∙◌}
 use mathlib.Core.List.{List, [], ◌∷◌, ◌++◌, append-nil, append_assoc}
 use mathlib.Core.Option.{some, none}

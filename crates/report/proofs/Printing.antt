@@ -1,5 +1,6 @@
--- What is printed, by the answers of reduce and of pair. In order: with buffers and room enough only the list's rows refuse reduce (`reduce_refuses`, `reduce_passes`), and only refusal
--- 11 pair of an accepted list (`pair_refuses`, `pair_passes`). Assumes nothing.
+-- What is printed, by the answers of reduce and of pair. In order: with buffers and room enough only the list's rows
+-- refuse reduce (`reduce_refuses`, `reduce_passes`), and only refusal 11 pair of an accepted list (`pair_refuses`,
+-- `pair_passes`). Assumes nothing.
 use mathlib.Core.Path.{◌≡◌, refl, sym, ap, ◌∙◌}
 use mathlib.Core.Bool.{Bool, false, cond}
 use mathlib.Core.List.{List, [], ◌∷◌, ◌++◌}
@@ -16,7 +17,7 @@ use Rattle.checks.specs.Refusals.{Row, first, too_few_words, lists, list_rows, c
 use Rattle.cellfile.specs.Answers.{answer}
 use Rattle.checks.specs.Calls.{number, room_row}
 use Rattle.checks.specs.declared.Refusal.{Refusal}
-use Rattle.checks.proofs.Layers.{number_some, answer_number, answer_accepted, first_refused, first_passed}
+use Rattle.checks.proofs.Layers.{answer_refused, answer_accepted, first_refused, first_passed}
 use Rattle.checks.proofs.Rows.{list_none}
 use Rattle.reduction.specs.Calls.{slip_file, short_file, reducing}
 use Rattle.starting.specs.Steps.{reduce_steps}
@@ -74,29 +75,27 @@ module _ (list : List ℕ) (a b : ℕ) (room_a : 8192 ≤ a) (room_b : 8192 ≤ 
           )
 
       -- the list's rows decide
-      pub reduce_refuses : (refusal : Refusal) → (number refusal, []) ≡ reducing list (a ∷ b ∷ []) slip_room_is short_room_is
-          → line "refused" (number refusal ∷ []) ≡ printed list
-      reduce_refuses refusal e = go (first (list_rows lists list)) refl
+      pub reduce_refuses : {k : ℕ} → (k, []) ≡ reducing list (a ∷ b ∷ []) slip_room_is short_room_is
+          → line "refused" (k ∷ []) ≡ printed list
+      reduce_refuses {k} e = go (first (list_rows lists list)) refl
         where
-          r : number refusal ≡ first (list_rows lists list ++ rows)
-          r =
-              sym ((answer_number (first (list_rows lists list ++ rows)) (number refusal) values (number_some refusal)).0
-              (sym (e ∙ reducing_is)))
+          r : (0 < first (list_rows lists list ++ rows)) × (k ≡ first (list_rows lists list ++ rows))
+          r = answer_refused _ k _ _ (e ∙ reducing_is)
 
           crowded_after : Bool
           crowded_after = crowded (largest (cells_of list) (graph_after list ss))
 
-          go : (i : ℕ) → first (list_rows lists list) ≡ i → line "refused" (number refusal ∷ []) ≡ printed list
+          go : (i : ℕ) → first (list_rows lists list) ≡ i → line "refused" (k ∷ []) ≡ printed list
           go zero z =
               let y : first (list_rows lists list ++ rows) ≡ 0 =
               first_passed (list_rows lists list) rows (list_none lists list z) ∙ roomy z in
-              absurd (omega (arith, y, r, number_some refusal))
+              absurd (omega (arith, y, r.0))
           go (suc i) z =
               let l : 0 < first (list_rows lists list) = omega (arith, z) in
-              refused_printed list (number refusal) (number_some refusal)
+              refused_printed list k (omega (arith, r))
               (first_refused (list_rows lists list) ((11, crowded_after) ∷ []) l
               ∙ sym (first_refused (list_rows lists list) rows l)
-              ∙ sym r)
+              ∙ sym r.1)
 
     pub reduce_passes : {s t : ℕ} → (0, s ∷ t ∷ []) ≡ reducing list (a ∷ b ∷ []) slip_room_is short_room_is
         → (first (list_rows lists list) ≡ 0) × (s ≡ length (slip_file list ss)) × (t ≡ length (short_file list ss))
@@ -148,11 +147,11 @@ module _ (list : List ℕ) (a b : ℕ) (room_a : 8192 ≤ a) (room_b : 8192 ≤ 
         (first_passed (list_rows lists list) (last_rows short) (list_none lists list h)
         ∙ ap (λ (t : Bool). first (last_rows t)) roomy_pairing)
 
-    pub pair_refuses : (refusal : Refusal) → (number refusal, []) ≡ pairing list (a ∷ b ∷ []) room origin_room_is
-        → line "refused" (number refusal ∷ []) ≡ printed list
-    pair_refuses refusal e =
-        let r = (answer_number (cond full 11 0) (number refusal) lengths (number_some refusal)).0 (sym (e ∙ pairing_is)) in
-        refused_printed list (number refusal) (number_some refusal) (refusal_is ∙ r)
+    pub pair_refuses : {k : ℕ} → (k, []) ≡ pairing list (a ∷ b ∷ []) room origin_room_is
+        → line "refused" (k ∷ []) ≡ printed list
+    pair_refuses {k} e =
+        let r = answer_refused _ k _ _ (e ∙ pairing_is) in
+        refused_printed list k (omega (arith, r)) (refusal_is ∙ sym r.1)
 
     pub pair_passes : {s t : ℕ} → (0, s ∷ t ∷ []) ≡ pairing list (a ∷ b ∷ []) room origin_room_is
         → (s ≡ length (pairing_file list)) × (made list ≡ printed list)

@@ -1,11 +1,12 @@
 -- The marks of a path are its best (`marked_path`), by the recurrence of `Path` in crate matching; before it what marks
 -- and the pairs they mark become with one more pair, after it the two loops that write the marks.
-use Prim.Native.Nat.{ℕ, suc, ◌+◌, ◌<◌}
+use Prim.Native.Nat.{ℕ, suc, ◌+◌, ◌≤◌, ◌<◌}
 use mathlib.Core.Path.{◌≡◌, refl, sym, ap, ap₂, ◌∙◌}
 use mathlib.Core.Bool.{Bool, true, false, cond}
 use mathlib.Core.List.{List, [], ◌∷◌, ◌++◌, map, append_assoc, append-nil}
 use native.Mathlib.Omega.{arith}
 use native.Mathlib.Numerals.{add-one}
+use borrow.Author.Tests.{lt-ltb, le-ltb}
 use lib.Dec.{eqb, leb}
 use mir.Val.{bool_byte}
 use lib.ListN.{length, take, drop, get_or, set, length-map}
@@ -132,6 +133,15 @@ marked_path w u (c ∷ d ∷ cs) v a =
 pub pays_is : (k l : ℕ) → leb k l ≡ pays tie k l
 unfolding tie
 pays_is k l = grind (arith, nat_tests)
+
+-- its two sides, as marks
+pub pays_less : (k l : ℕ) → l < k → 0 ≡ ι (pays tie k l)
+unfolding tie
+pays_less k l h = rw (lt-ltb l k h)
+
+pub pays_enough : (k l : ℕ) → k ≤ l → 1 ≡ ι (pays tie k l)
+unfolding tie
+pays_enough k l h = rw (le-ltb l k h)
 
 pub one_if : (t : Bool) → bool_byte t ≡ ι t
 one_if true = refl

@@ -92,7 +92,7 @@ fn stand(before: u64, mark: u64) -> u64
     if before == 1 { 0 } else { mark }
 }
 
-// Marks the pairs of a path that pay, from its last pair on.
+// Marks the pairs of a path that pay, from its last pair on: as words, which stand in the lent buffer.
 fn mark_paying(words: &[u64], marks: &mut [u64])
     requires { (length words.now ≤ 1024) × (length marks.old ≡ length words.now) }
     ensures { marks.new ≡ paying (map row_points words.now) }

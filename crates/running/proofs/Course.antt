@@ -1,14 +1,18 @@
--- The course of steps. In order: the names of a slip one by one (`names_count`, `name_read`; `named_here`, `named_out`;
--- `names_next`, `names_out`); the course from step k on, by its next step (`course_on_is`, `course_refused`,
--- `course_ends`, `course_out`) and by steps that reduce takes (`course_more`); steps before a course (`behind_append`,
--- `behind_nil`, `behind_none`); the step that comes next is found by its name (`next_named`). Assumes nothing.
+-- The course of steps. In order: the names of a slip one by one (`names_count`, `steps_in_count`, `name_read`;
+-- `named_is`; `names_next`, `names_out`); the course from step k on, by its next step (`course_on_is`,
+-- `course_refused`, `course_ends`, `course_out`) and by steps that reduce takes (`course_more`); steps before a course
+-- (`behind_append`, `behind_nil`, `behind_none`); the step that comes next is found by its name (`next_named`). Assumes
+-- nothing.
 use mathlib.Core.Path.{◌≡◌, refl, sym, ap, ap₂, subst, ◌∙◌}
 use mathlib.Core.Bool.{Bool}
 use mathlib.Core.List.{List, [], ◌∷◌, ◌++◌, append-nil, append_assoc}
 use mathlib.Core.Option.{Option, some, none}
-use Rattle.std.specs.Prelude.{Some, None}
+use Rattle.std.specs.Prelude.{Option as Perhaps, Some, None, MatchOption, IfSome}
+use Rattle.std.specs.Option.{is_some}
+use Rattle.std.proofs.lemmas.Bool.{ltb-true, ltb-false}
 use Prim.Native.Nat.{ℕ, suc, ◌+◌, ◌≤◌, ◌<◌}
 use native.Mathlib.Omega.{arith}
+use lib.Dec.{ltb}
 use lib.ListN.{length, get_or, drop, length-map, drop_of_length-le, get_or-map}
 use Rattle.matching.specs.Pairs.{Points}
 use Rattle.matching.specs.Graph.{Graph}
@@ -24,12 +28,18 @@ use Rattle.cellfile.specs.Reads.{StepRead, WholeFile}
 use Rattle.cellfile.specs.declared.decode.SlipStep.{SlipStep}
 use Rattle.cellfile.proofs.Walk.{steps_count, next}
 use Rattle.running.specs.Course.{course}
-use Rattle.running.specs.Running.{names_of, next_step, next_step_of, NamedAt, fuel, course_from}
+use Rattle.running.specs.Running.{names_of, steps_in, next_step, next_step_of, NamedAt, fuel, course_from}
 
 -- ---- the names of a slip
 
 pub names_count : (s : List ℕ) → length (names_of s) ≡ count_of s
 names_count s = length-map (steps_of s) as_name ∙ steps_count s
+
+-- how many there are where there may be no slip, by what is known of its count
+pub steps_in_count : {A : Type 0} (slip : Perhaps A) (f : A → List (Rule × ℕ)) {k : ℕ} {Q : A → Type 0}
+    → MatchOption slip (k ≡ 0) Q → ((r : A) → Q r → k ≡ length (f r)) → k ≡ length (steps_in slip f)
+steps_in_count None f h is = h
+steps_in_count (Some r) f h is = is r h
 
 -- the name at a place, by the step read there
 pub name_read : (s : List ℕ) (k : ℕ) → k < count_of s → {t : SlipStep} → StepRead s k t
@@ -39,16 +49,15 @@ name_read s k l r =
     ∙ sym (get_or-map as_name (steps_of s) k (0, 0))
 
 -- the step after k others, or there is none
-module _ (s : List ℕ) {m k : ℕ} (h : WholeFile slip_layout s m) where
-  pub named_here : k < m → {t : SlipStep} → StepRead s k t → NamedAt (names_of s) k (Some t)
-  named_here l r = (
-    omega (arith, h.count, names_count s),
-    name_read s k (omega (arith, h.count)) r,
-    r.fits.cell,
-  )
-
-  pub named_out : m ≤ k → NamedAt (names_of s) k None
-  named_out l = omega (arith, h.count, names_count s)
+pub named_is : (s : List ℕ) {m : ℕ} (k : ℕ) → WholeFile slip_layout s m → (t : Perhaps SlipStep) → is_some t ≡ ltb k m
+    → IfSome t (StepRead s k) → NamedAt (names_of s) k t
+named_is s {m} k h None e r = omega (arith, h.count, names_count s, ltb-false k m (sym e))
+named_is s {m} k h (Some t) e r =
+    let l = ltb-true k m (sym e) in (
+      omega (arith, h.count, names_count s, l),
+      name_read s k (omega (arith, h.count, l)) r,
+      r.fits.cell,
+    )
 
 module _ (rs : List (Rule × ℕ)) (k : ℕ) where
   pub names_next : k < length rs → drop k rs ≡ get_or rs k (as_name (0, 0)) ∷ drop (k + 1) rs

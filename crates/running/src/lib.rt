@@ -86,10 +86,7 @@ struct Place {
 fn count_of(slip: Option<&Records<'_, SlipStep>>) -> usize
     ensures { result ≡ length (steps_in slip.entry (λ r. names_of r.now.file.now)) }
 {
-    match slip {
-        Some(steps) => steps.count,
-        None => 0,
-    }
+    slip.map_or(0, |steps| steps.count)
 }
 
 // The step that a slip names after k others.
@@ -97,11 +94,8 @@ fn named(slip: Option<&Records<'_, SlipStep>>, k: usize) -> Option<SlipStep>
     ensures { NamedAt (steps_in slip.entry (λ r. names_of r.now.file.now)) k result }
 {
     let steps = slip?;
-    if k < steps.count {
-        Some(steps.get(k))
-    } else {
-        None
-    }
+    let step = || steps.get(k);
+    (k < steps.count).then(step)
 }
 
 // The step that comes next: the one that the slip names, or behind its steps the one that reduce takes.
@@ -237,6 +231,7 @@ pub fn run(
         },
         bounds: Bounds { low: 0, rings: 0 },
     };
+    // A round takes one step, and the run of leaves behind it.
     while at.taken.steps < m + more {
         let Some(found) = next(graph, n, slip, at) else {
             if at.taken.steps < m {

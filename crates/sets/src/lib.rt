@@ -1,7 +1,7 @@
 // Inner, for solving: the heaviest pairing of a set of at most 12 cells, by their places. See specs/Sets.
 #![tactic(auto)]
 
-ghost use Rattle.std.specs.Prelude.{◌≡◌, ◌-◌, ◌/◌, ◌%◌, ◌^◌, ◌<◌, ◌≤◌, max, length};
+ghost use Rattle.std.specs.Prelude.{◌≡◌, ◌-◌, ◌/◌, ◌%◌, ◌^◌, ◌<◌, ◌≤◌, length};
 ghost use Rattle.std.specs.Option.{IfSome};
 ghost use Rattle.sets.specs.Sets.{points, partner_told, Lowest, Best, Kept, Ready, Forgotten, Takes};
 
@@ -21,7 +21,7 @@ pub struct Taken {
 // What the table has of a set, or 0 where nothing is known of it: the points of its heaviest pairing, and below them
 // the partner of its lowest place, as 14 less the partner's place, or 15 where it has none. So the greater of two words
 // has more points, or as many and no partner or the earlier one.
-#[derive(Clone, Copy)]
+#[derive(Clone, Copy, PartialEq, Eq, PartialOrd, Ord)]
 struct Word(u64);
 
 impl Word {
@@ -51,12 +51,6 @@ impl Word {
         ensures { result ≡ partner_told self.0 }
     {
         14u64.checked_sub(self.0 % Self::POINT).map(|p| p as usize)
-    }
-
-    fn max(self, other: Word) -> Word
-        ensures { result.0 ≡ max self.0 other.0 }
-    {
-        Word(self.0.max(other.0))
     }
 }
 

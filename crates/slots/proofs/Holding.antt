@@ -1,5 +1,5 @@
 -- What callers need of buffers that hold a graph, so that they never look into `Holds`. In order: their room; a word on
--- the trail or the slip changes nothing (`holds_kept`, `holds_aside`, `holds_trail`); a pair put in either order of its cells
+-- the trail or the slip changes nothing (`holds_kept`, `holds_aside`); a pair put in either order of its cells
 -- (`put_turned`); the pair that a live slot joins, and the slots that stay when another goes (`joins_put`, `joins_one`,
 -- `joins_pair`, `joins_other`). Assumes nothing.
 use mathlib.Core.Path.{◌≡◌, refl, ap, ◌∙◌, fun_ext}
@@ -61,9 +61,6 @@ holds_aside {w2 = w2} h t k off =
     apart : (j : ℕ) → at_sums ≤ j → j < at_names → (t < trail_room) ⊎ (at_names ≤ t) → j ≢ t
     apart j a b (inl l) = λ q. omega arith
     apart j a b (inr l) = λ q. omega arith
-
-pub holds_trail : {e : ℕ} {w1 w2 : List ℕ} → Holds e w1 w2 → (t k : ℕ) → t < trail_room → Holds e w1 (set w2 t k)
-holds_trail h t k l = holds_aside h t k (inl l)
 
 -- ---- the pair of a live slot
 

@@ -85,7 +85,7 @@ impl WorkingGraph<'_> {
         words::slot_of(self.w2[map::LASTS + c])
     }
 
-    // The last slot of c before slot i, which has c.
+    // The last slot of c before slot i, which has c: a slot of a cell leads to the one before it.
     #[inline]
     pub fn slot_before(&self, c: usize, i: usize) -> Option<usize>
         requires { (i < self.now.slots) × (touches c (low_of self.now.w1.now i) (high_of self.now.w1.now i) ≡ true) }

@@ -12,7 +12,7 @@ use Rattle.buffers.specs.Map.{at_sets, at_points, at_places, at_table}
 use Rattle.buffers.proofs.Same.{part_same}
 use Rattle.matching.specs.Pairs.{Pair, Points, sum, hit}
 use Rattle.matching.specs.Pairing.{seen}
-use Rattle.matching.specs.Origin.{all_short}
+use Rattle.matching.specs.Origin.{all_short, from_short}
 use Rattle.matching.specs.Solve.{solve}
 use Rattle.matching.proofs.Sums.{sum_append}
 use Rattle.cellfile.specs.Words.{points_room}
@@ -35,7 +35,7 @@ set_word : (w2 : List ℕ) (i : ℕ) → i < 144 → get_or (set_words w2) i 0 �
 set_word w2 i l = get_or-take 144 (drop at_points w2) i 0 l ∙ get_or-drop at_points w2 i 0
 
 set_same : (w v : List ℕ) → 8192 ≤ length w → length v ≡ length w → TableOnly w v → set_words v ≡ set_words w
-set_same w v r s h = part_same w v at_points 144 s (omega arith) (λ j m. h j (omega arith))
+set_same w v r s h = part_same w v at_points 144 (omega arith) (omega arith) (λ j m. h j (omega arith))
 
 module _ {w : Points} {cs : List ℕ} {m : List Pair} {k : ℕ} {w1 w2 : List ℕ} (p : JoinThere w cs m k w1 w2) where
   abbrev ws : List ℕ
@@ -154,23 +154,24 @@ module _ {w : Points} {cs : List ℕ} {m : List Pair} {k : ℕ} {w1 w2 : List �
       sums : (f : Points) → sum f all ≡ f a b + sum f h.done + sum f (ahead t.rest)
       sums f = omega (arith, h.sums f, ap (sum f) head)
 
-      pub joining_pair : {v : List ℕ} → v ≡ joined (cell_in w2' t.low) (cell_in w2' x) 0 w2' → Joining w1'' v t.rest
+      pub joining_pair : {v : List ℕ} → v ≡ joined (cell_in w2' t.low) (cell_in w2' x) from_short w2'
+          → Joining w1'' v t.rest
       joining_pair {v} o = subst (λ u. Joining w1'' u t.rest) (sym at) after
         where
-          at : v ≡ joined a b 0 w2'
-          at = o ∙ ap₂ (λ x y. joined x y 0 w2') now_a now_b
+          at : v ≡ joined a b from_short w2'
+          at = o ∙ ap₂ (λ x y. joined x y from_short w2') now_a now_b
 
-          after : Joining w1'' (joined a b 0 w2') t.rest
+          after : Joining w1'' (joined a b from_short w2') t.rest
           after = record {
             ready = next;
             front = still;
             long = length-set (set w2' (at_table + a) (b + 1 + 2048 * 0)) (at_table + b) (a + 1 + 2048 * 0)
                 ∙ length-set w2' (at_table + a) (b + 1 + 2048 * 0) ∙ h.long;
-            only = λ j l. joined_aside w2' a b 0 j l ∙ h.only j l;
+            only = λ j l. joined_aside w2' a b from_short j l ∙ h.only j l;
             done = (a, b) ∷ h.done;
             sums = sums;
             mates = mates_join w2' all_short h.done a b (omega (arith, h.long, p.room2))
-                (p.places t.low g.low) (p.places x joining_within) h.mates 0
+                (p.places t.low g.low) (p.places x joining_within) h.mates from_short
                 (refl, refl) (λ c. omega (arith, sums (hit c), p.once c));
           }
 

@@ -14,7 +14,8 @@ ghost use Rattle.solving.specs.Joined.{JoinThere, Joins, GroupsThere, GroupSolve
 use buffers::map::{PLACES, POINTS};
 use gathering;
 use grouping;
-use partners;
+use origins::Origin;
+use partners::table::Table;
 use running::lists;
 use sets;
 use slots::graph::WorkingGraph;
@@ -29,14 +30,16 @@ fn join_group(w1: &mut [u64], w2: &mut [u64], k: usize) -> u64
     let all = sets::first_places(k);
     let points = sets::points_of(&w2[POINTS..PLACES], w1, k, all);
     let mut left = all;
+    // A round takes one place out of the set, or two.
     while left != 0 {
         let taken = sets::take_lowest(&w2[POINTS..PLACES], w1, k, left);
         left = taken.rest;
-        if let Some(partner) = taken.partner {
-            let a = w2[PLACES + taken.low] as usize;
-            let b = w2[PLACES + partner] as usize;
-            partners::join(w2, a, b, 0);
-        }
+        let Some(partner) = taken.partner else {
+            continue;
+        };
+        let a = w2[PLACES + taken.low] as usize;
+        let b = w2[PLACES + partner] as usize;
+        Table { words: w2 }.join(a, b, Origin::Short);
     }
     points
 }
@@ -80,7 +83,8 @@ fn set_out(w1: &[u64], w2: &mut [u64], r: usize, n: usize)
     grouping::link(w2, n);
     gathering::find_starts(w1, w2, r, n);
     gathering::blank(w2);
-    partners::clear_table(w2);
+    let mut table = Table { words: w2 };
+    table.clear();
 }
 
 // Each cell of the graph of n cells in e slots gets its first label.

@@ -1,9 +1,8 @@
 -- The entries of a raw list as words, and the store list that they make. In order: loading them; they fit their fields;
--- the words in order are the entries in order (`order_words`); the file of these words (`order_length`, `tidy_written`);
--- refusals 1 and 13 (`tidy_refused`, `raw_refused`, `tidy_passed`).
--- Assumes nothing.
+-- the words in order are the entries in order (`order_words`); the file of these words (`order_length`,
+-- `tidy_written`). Assumes nothing.
 use mathlib.Core.Path.{◌≡◌, refl, sym, ap, ◌∙◌}
-use mathlib.Core.Bool.{Bool, false}
+use mathlib.Core.Bool.{false}
 use mathlib.Core.List.{List, [], ◌∷◌, ◌++◌, map, map-map, append-nil}
 use Prim.Native.Nat.{ℕ, ◌+◌, ◌≤◌, ◌<◌}
 use native.Mathlib.Omega.{arith}
@@ -22,19 +21,16 @@ use Rattle.cellfile.proofs.All.{all_values}
 use Rattle.cellfile.proofs.Lists.{view_all, view_small}
 use Rattle.cellfile.proofs.Walk.{entries_count, entry_next}
 use Rattle.cellfile.proofs.Outputs.{plain_store, words_length, records_file}
-use Rattle.checks.specs.Refusals.{first, is_bad_raw}
-use Rattle.checks.specs.Calls.{number}
-use Rattle.checks.specs.declared.Refusal.{Refusal}
+use Rattle.checks.specs.Refusals.{is_bad_raw}
 use Rattle.checks.proofs.Rows.{bad_raw_none}
-use Rattle.cellfile.specs.Answers.{Answer}
-use Rattle.checks.specs.Answering.{Output, Does}
-use Rattle.checks.proofs.Answering.{Unchanged, refused, passed, one_written}
+use Rattle.checks.specs.Answering.{Does}
+use Rattle.checks.proofs.Answering.{one_written}
 use Rattle.checks.proofs.Accepted.{all_with}
 use Rattle.sorting.specs.Sorted.{sorted}
 use Rattle.sorting.specs.Words.{word_key}
 use Rattle.sorting.proofs.Sorted.{all_onto, length_sorted, sorted_map}
 use Rattle.sorting.proofs.Merging.{store_next}
-use Rattle.tidying.specs.Calls.{low_first, tidied, tidy_file, tidy_rows}
+use Rattle.tidying.specs.Calls.{low_first, tidied, tidy_file}
 use Rattle.tidying.specs.Words.{raw_word, RawThere}
 
 -- ---- loading
@@ -124,21 +120,3 @@ module _ (raw : List ℕ) (accepted : is_bad_raw raw ≡ false) where
         → Does [] ((tidy_file raw, out, out') ∷ []) (0, length (tidy_file raw) ∷ [])
     tidy_written out c h q =
         one_written (tidy_file raw) out refl h (q ∙ ap (λ f. onto f out) (order_file c))
-
--- ---- refusals 1 and 13
-
-module _ (few : Bool) (raw : List ℕ) {outs : List Output} where
-  pub tidy_refused : (r : Refusal) → number r ≡ first ((1, few) ∷ []) → Unchanged outs
-      → Does (tidy_rows few raw) outs (number r, [])
-  tidy_refused r e u = refused ((1, few) ∷ []) ((13, is_bad_raw raw) ∷ []) r e u
-
-  module _ (enough : 0 ≡ first ((1, few) ∷ [])) where
-    pub raw_refused : (r : Refusal) → number r ≡ first ((13, is_bad_raw raw) ∷ []) → Unchanged outs
-        → Does (tidy_rows few raw) outs (number r, [])
-    raw_refused r e u = passed ((1, few) ∷ []) ((13, is_bad_raw raw) ∷ []) (omega arith) enough
-        (refused ((13, is_bad_raw raw) ∷ []) [] r e u)
-
-    pub tidy_passed : {a : Answer} → 0 ≡ first ((13, is_bad_raw raw) ∷ []) → Does [] outs a
-        → Does (tidy_rows few raw) outs a
-    tidy_passed e d = passed ((1, few) ∷ []) ((13, is_bad_raw raw) ∷ []) (omega arith) enough
-        (passed ((13, is_bad_raw raw) ∷ []) [] (omega arith) e d)

@@ -26,6 +26,7 @@ pub fn take_row(graph: &mut WorkingGraph, t: usize, from: Stop, v: usize) -> usi
 {
     let mut at = from;
     let mut k = 0;
+    // The row ends at a cell, after as many pairs as it has.
     while at.end != v {
         let next = finding::onward(graph, at);
         take_pair(graph, t + k, at);

@@ -1,7 +1,7 @@
 -- The way back through all the steps on the trail. In order: a slip that is allowed, without its last step
 -- (`replay_last`); of some steps there is a last one (`back_last`), which is to be undone (`back_there`); what undoing
--- it leaves is a trail to go back on with the same outcome (`Onward`, `onward_there`, `onward_next`); no step is the end
--- of it (`onward_end`). Assumes nothing.
+-- it leaves is a trail to go back on with the same outcome (`Onward`, `onward_there`, `onward_next`); no step is the
+-- end of it (`onward_end`). Assumes nothing.
 use mathlib.Core.Path.{◌≡◌, refl, sym, ap, subst, ◌∙◌}
 use mathlib.Core.Logic.{◌⊎◌, inl, inr}
 use mathlib.Core.List.{List, [], ◌∷◌, ◌++◌, append-nil, map}
@@ -134,7 +134,8 @@ module _ {t count : ℕ} {w1 w2 : List ℕ} (b : BackThere t count w1 w2) where
 
     back_there : UndoThere t count w1 w2
     back_there = record {
-      rooms = b.rooms;
+      room1 = b.room1;
+      most = b.most;
       n = b.n;
       w = before;
       step = l.step;
@@ -158,18 +159,15 @@ module _ {t count : ℕ} {w1 w2 : List ℕ} (b : BackThere t count w1 w2) where
     abbrev after : Origins
     after = stamped count l.step (added before l.step b.pairs) b.from
 
-    back_on : {r : ℕ} {w1' w2' : List ℕ} → length w1' ≡ length w1 → length w2' ≡ length w2
+    back_on : {r : ℕ} {w1' w2' : List ℕ} → length w1' ≡ length w1
         → Undone t count w1 w2 w2' r back_there → Onward b r (count - 1) w1' w2'
     unfolding back_there
-    back_on {r} {w1'} {w2'} p q u = (d, same_pairs, same_from)
+    back_on {r} {w1'} {w2'} p u = (d, same_pairs, same_from)
       where
         d : BackThere r (count - 1) w1' w2'
         d = record {
-          rooms = record {
-            room1 = omega (arith, p, b.rooms.room1);
-            room2 = omega (arith, q, b.rooms.room2);
-            most = omega (arith, u.fewer, b.rooms.most);
-          };
+          room1 = omega (arith, p, b.room1);
+          most = omega (arith, u.fewer, b.most);
           n = b.n;
           w = b.w;
           steps = l.init;
@@ -209,11 +207,11 @@ module _ {t count left number : ℕ} {w1₀ w2₀ w1 w2 : List ℕ} (b : BackThe
   pub onward_there : 0 < number → UndoThere left number w1 w2
   onward_there l = back_there o.0 (back_last o.0 l)
 
-  pub onward_next : {r : ℕ} {w1' w2' : List ℕ} → 0 < number → length w1' ≡ length w1 → length w2' ≡ length w2
+  pub onward_next : {r : ℕ} {w1' w2' : List ℕ} → 0 < number → length w1' ≡ length w1
       → ((u : UndoThere left number w1 w2) → Undone left number w1 w2 w2' r u) → Onward b r (number - 1) w1' w2'
-  onward_next l p q d =
+  onward_next l p d =
       let k = back_last o.0 l in
-      let n = back_on o.0 k p q (d (back_there o.0 k)) in
+      let n = back_on o.0 k p (d (back_there o.0 k)) in
       (n.0, n.1 ∙ o.1, n.2 ∙ o.2)
 
   pub onward_end : number ≡ 0 → Lifted t count w1₀ w2₀ w2 b

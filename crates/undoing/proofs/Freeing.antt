@@ -15,8 +15,8 @@ use Rattle.matching.proofs.Tests.{Test, pass, fail, lt_test, holds}
 use Rattle.matching.proofs.Sums.{times_none, sum_apart, like_turned, keep_all, keep_and, without_once, without_none}
 use Rattle.matching.proofs.Partner.{held_free}
 use Rattle.matching.specs.Origin.{Origins}
-use Rattle.partners.specs.Table.{Mates, TableOnly}
-use Rattle.undoing.specs.Unwinding.{parted, InTable, TableOf, chain_stays, ChainFreed, RingFreed}
+use Rattle.partners.specs.Table.{parted, Mates, InTable, TableOnly}
+use Rattle.undoing.specs.Unwinding.{TableOf, chain_stays, ChainFreed, RingFreed}
 use Rattle.undoing.specs.declared.Ends.{Ends}
 use Rattle.undoing.proofs.Mating.{parted_aside, mates_part, mates_without, free_unheld}
 

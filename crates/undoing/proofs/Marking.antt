@@ -5,26 +5,26 @@
 use mathlib.Core.Path.{◌≡◌, refl, sym, ap, ap₂, subst, ◌∙◌}
 use mathlib.Core.Bool.{Bool, true, false, cond}
 use mathlib.Core.List.{List, [], ◌∷◌, ◌++◌}
-use Prim.Native.Nat.{ℕ, zero, suc, ◌+◌, ◌*◌, ◌-◌, ◌≤◌, ◌<◌}
+use Prim.Native.Nat.{ℕ, zero, suc, ◌+◌, ◌-◌, ◌≤◌, ◌<◌}
 use native.Mathlib.Omega.{arith}
 use lib.Dec.{eqb}
-use lib.ListN.{length, get_or, set, take, drop, length-set, length-drop}
+use lib.ListN.{length, get_or, take, drop, length-drop}
 use lib.Seq.{length-take-le, drop-length, drop-cons, get_or-take, get_or-drop}
-use Rattle.buffers.specs.Map.{trail_room, at_table, partner_field}
+use Rattle.buffers.specs.Map.{trail_room}
 use Rattle.matching.specs.Pairs.{Pair, Points, sum, Each, hit}
 use Rattle.matching.specs.Pairing.{Once}
+use Rattle.matching.specs.Origin.{Origin, number_in}
 use Rattle.matching.proofs.Sums.{sum_append}
 use Rattle.rows.specs.Row.{marked}
-use Rattle.origins.specs.Stamps.{stamp_for}
-use Rattle.partners.specs.Table.{joined, TrailKept}
+use Rattle.partners.specs.Table.{joined, IsFrom, TrailKept}
 use Rattle.partners.proofs.Joining.{joined_aside, mates_join}
 use Rattle.trail.specs.Trail.{cell_of, start_of, row_pairs}
 use Rattle.buffers.proofs.Same.{part_same}
 use Rattle.undoing.specs.Unwinding.{TableOf, words_at, PutThere}
 
 pub words_same : (a k : ℕ) (w2 w2' : List ℕ) → TrailKept w2 w2' → a + k ≤ trail_room → 8192 ≤ length w2
-    → length w2' ≡ length w2 → take k (drop a w2') ≡ take k (drop a w2)
-words_same a k w2 w2' h l r s = part_same w2 w2' a k s (omega arith) (λ j m. h j (omega arith))
+    → 8192 ≤ length w2' → take k (drop a w2') ≡ take k (drop a w2)
+words_same a k w2 w2' h l r s = part_same w2 w2' a k (omega arith) (omega arith) (λ j m. h j (omega arith))
 
 -- ---- the loop
 
@@ -72,30 +72,30 @@ each_marked P (suc i) (m ∷ marks) (x ∷ ws) v p = each_marked P i marks ws v 
     go false h = h
 
 -- The pairs of places j and up are in the table, `to` is the cell that place j starts from.
-pub record Putting {a v stamp : ℕ} {marks w2₀ : List ℕ} (p : PutThere a v stamp marks w2₀) (j to : ℕ) (w2 : List ℕ)
-    : Type 0 where
+pub record Putting {a v : ℕ} {origin : Origin} {marks w2₀ : List ℕ} (p : PutThere a v origin marks w2₀) (j to : ℕ)
+    (w2 : List ℕ) : Type 0 where
   pub most : j ≤ length marks
-  pub same : length w2 ≡ length w2₀
   pub start : to ≡ start_of (drop j (words_at a marks w2₀)) v
   pub table : TableOf w2₀ w2 p.from
       (marked (drop j marks) (row_pairs (drop j (words_at a marks w2₀)) v) ++ p.pairs)
 
-module _ {a v stamp : ℕ} {marks w2₀ : List ℕ} (p : PutThere a v stamp marks w2₀) where
+module _ {a v : ℕ} {origin : Origin} {marks w2₀ : List ℕ} (p : PutThere a v origin marks w2₀)
+    (room₀ : 8192 ≤ length w2₀) where
   abbrev ws : List ℕ
   ws = words_at a marks w2₀
 
   abbrev m : List Pair
   m = p.pairs
 
-  abbrev Stamped : ℕ → ℕ → Type 0
-  Stamped x y = (stamp_for (p.from x y) ≡ stamp) × (stamp_for (p.from y x) ≡ stamp)
+  abbrev FromThere : ℕ → ℕ → Type 0
+  FromThere = IsFrom p.from origin
 
   abbrev from_place : ℕ → List Pair
   from_place j = marked (drop j marks) (row_pairs (drop j ws) v)
 
   ws_length : length ws ≡ length marks
   ws_length =
-      length-take-le (length marks) (drop a w2₀) (omega (arith, p.on_trail, p.room2, length-drop a w2₀))
+      length-take-le (length marks) (drop a w2₀) (omega (arith, p.on_trail, room₀, length-drop a w2₀))
 
   ws_end : drop (length marks) ws ≡ []
   ws_end = ap (λ k. drop k ws) (sym ws_length) ∙ drop-length ws
@@ -103,7 +103,6 @@ module _ {a v stamp : ℕ} {marks w2₀ : List ℕ} (p : PutThere a v stamp mark
   pub put_none : Putting p (length marks) v w2₀
   put_none = record {
     most = omega arith;
-    same = refl;
     start = sym (ap (λ xs. start_of xs v) ws_end);
     table = record {
       mates = rw (drop-length marks) p.mates;
@@ -121,11 +120,11 @@ module _ {a v stamp : ℕ} {marks w2₀ : List ℕ} (p : PutThere a v stamp mark
         sum_drop (hit c) i marks ws v,
       )
 
-  -- the stamps of the pairs of a place and up
-  stamps_from : (i : ℕ) → Each Stamped (from_place i)
-  stamps_from i = each_marked Stamped i marks ws v p.stamps
+  -- where the pairs of a place and up are from
+  origins_from : (i : ℕ) → Each FromThere (from_place i)
+  origins_from i = each_marked FromThere i marks ws v p.origins
 
-  module _ (i to : ℕ) (w2 : List ℕ) (h : Putting p (suc i) to w2) where
+  module _ (i to : ℕ) (w2 : List ℕ) (h : Putting p (suc i) to w2) (room : 8192 ≤ length w2) where
     words_at_is : drop i ws ≡ get_or ws i 0 ∷ drop (suc i) ws
     words_at_is = drop-cons ws i 0 (omega (arith, h.most, ws_length))
 
@@ -149,55 +148,47 @@ module _ {a v stamp : ℕ} {marks w2₀ : List ℕ} (p : PutThere a v stamp mark
           let q = each_drop (λ x y. (x < 1024) × (y < 1024)) i ws v p.below in
           (subst (Each (λ x y. (x < 1024) × (y < 1024))) pairs_at q).0
 
-      asks_at : (8192 ≤ length w2) × (from < 1024) × (to < 1024) × (stamp < 16384)
-      asks_at = (omega (arith, h.same, p.room2), below_at.0, below_at.1, p.few)
+      asks_at : (from < 1024) × (to < 1024) × (number_in origin < 2048)
+      asks_at = (below_at.0, below_at.1, p.few)
 
       place_at : from_place i ≡ cond (eqb (get_or marks i 0) 1) ((from, to) ∷ from_place (suc i)) (from_place (suc i))
       place_at = ap₂ marked (drop-cons marks i 0 (omega (arith, h.most))) pairs_at
 
-      more_at : {w2' : List ℕ} → w2' ≡ cond (eqb (get_or marks i 0) 1) (joined from to stamp w2) w2
+      more_at : {w2' : List ℕ} → w2' ≡ cond (eqb (get_or marks i 0) 1) (joined from to origin w2) w2
           → Putting p i from w2'
       more_at {w2'} q = record {
         most = omega (arith, h.most);
-        same = ap length q ∙ len (eqb (get_or marks i 0) 1) ∙ h.same;
         start = here ∙ sym (ap (λ xs. start_of xs v) words_at_is);
         table =
             subst (λ xs. TableOf w2₀ xs p.from (from_place i ++ m)) (sym q)
-            (subst (λ es. TableOf w2₀ (cond (eqb (get_or marks i 0) 1) (joined from to stamp w2) w2) p.from (es ++ m))
+            (subst (λ es. TableOf w2₀ (cond (eqb (get_or marks i 0) 1) (joined from to origin w2) w2) p.from (es ++ m))
             (sym place_at)
             (go (eqb (get_or marks i 0) 1) (subst (λ es. Once (es ++ m)) place_at (once_from i))
-            (subst (Each Stamped) place_at (stamps_from i))));
+            (subst (Each FromThere) place_at (origins_from i))));
       }
         where
-          len : (t : Bool) → length (cond t (joined from to stamp w2) w2) ≡ length w2
-          len true =
-              length-set (set w2 (at_table + from) (to + 1 + partner_field * stamp)) (at_table + to)
-              (from + 1 + partner_field * stamp)
-              ∙ length-set w2 (at_table + from) (to + 1 + partner_field * stamp)
-          len false = refl
-
           go : (t : Bool) → Once (cond t ((from, to) ∷ from_place (suc i)) (from_place (suc i)) ++ m)
-              → Each Stamped (cond t ((from, to) ∷ from_place (suc i)) (from_place (suc i)))
-              → TableOf w2₀ (cond t (joined from to stamp w2) w2) p.from
+              → Each FromThere (cond t ((from, to) ∷ from_place (suc i)) (from_place (suc i)))
+              → TableOf w2₀ (cond t (joined from to origin w2) w2) p.from
               (cond t ((from, to) ∷ from_place (suc i)) (from_place (suc i)) ++ m)
           go true o e = record {
-            mates = mates_join w2 p.from (from_place (suc i) ++ m) from to asks_at.0 below_at.0 below_at.1
-                h.table.mates stamp e.0 o;
-            aside = λ j l. joined_aside w2 from to stamp j l ∙ h.table.aside j l;
+            mates = mates_join w2 p.from (from_place (suc i) ++ m) from to room below_at.0 below_at.1
+                h.table.mates origin e.0 o;
+            aside = λ j l. joined_aside w2 from to origin j l ∙ h.table.aside j l;
           }
           go false o e = h.table
 
-  module _ {j to from : ℕ} {w2 : List ℕ} (h : Putting p j to w2) (l : 0 < j)
-      (e : from ≡ cell_of (get_or w2 (a + (j - 1)) 0)) where
+  module _ {j to from : ℕ} {w2 : List ℕ} (h : Putting p j to w2) (room : 8192 ≤ length w2)
+      (l : 0 < j) (e : from ≡ cell_of (get_or w2 (a + (j - 1)) 0)) where
     earlier : Putting p (suc (j - 1)) to w2
     earlier = subst (λ k. Putting p k to w2) (let q : j ≡ suc (j - 1) = omega arith in q) h
 
-    pub put_asks : (8192 ≤ length w2) × (from < 1024) × (to < 1024) × (stamp < 16384)
-    put_asks = asks_at (j - 1) to w2 earlier e
+    pub put_asks : (from < 1024) × (to < 1024) × (number_in origin < 2048)
+    put_asks = asks_at (j - 1) to w2 earlier room e
 
-    pub put_more : {w2' : List ℕ} → w2' ≡ cond (eqb (get_or marks (j - 1) 0) 1) (joined from to stamp w2) w2
+    pub put_more : {w2' : List ℕ} → w2' ≡ cond (eqb (get_or marks (j - 1) 0) 1) (joined from to origin w2) w2
         → Putting p (j - 1) from w2'
-    put_more = more_at (j - 1) to w2 earlier e
+    put_more = more_at (j - 1) to w2 earlier room e
 
   pub put_all : {j to : ℕ} {w2 : List ℕ} → Putting p j to w2 → j ≡ 0
       → TableOf w2₀ w2 p.from (marked marks (row_pairs ws v) ++ m)

@@ -1,36 +1,34 @@
 -- The table of partners. In order: a pair that goes out of it (`mates_part`), and one that was not there
--- (`mates_without`), the words before the table staying as they are (`parted_aside`); whether two cells are partners,
--- by the table (`table_held`), and whether a cell is free (`table_free`). Assumes nothing.
-use mathlib.Core.Path.{◌≡◌, refl, sym, ap, ◌∙◌}
+-- (`mates_without`), the words before the table staying as they are (`parted_aside`); a pair of a free
+-- cell is not held (`free_unheld`). Assumes nothing.
+use mathlib.Core.Path.{◌≡◌, sym, ap, ◌∙◌}
 use mathlib.Core.Logic.{◌⊎◌, inl, inr, ◌≢◌}
 use mathlib.Core.Bool.{Bool, cond}
 use mathlib.Core.List.{List}
-use Prim.Native.Nat.{ℕ, ◌+◌, ◌%◌, ◌≤◌, ◌<◌}
+use Prim.Native.Nat.{ℕ, ◌+◌, ◌≤◌, ◌<◌}
 use native.Mathlib.Omega.{arith}
 use lib.Dec.{eqb}
 use lib.ListN.{length, get_or}
 use borrow.Author.Tests.{eq-eqb, ne_eqb}
-use Rattle.buffers.specs.Map.{at_table, partner_field}
-use Rattle.matching.specs.Pairs.{Pair, Points, sum, hit, like, held, free, without}
-use Rattle.matching.specs.Pairing.{Once, seen, partner}
-use Rattle.matching.specs.Origin.{Origins}
-use Rattle.matching.proofs.Tests.{Test, pass, fail, eq_test, lt_test}
+use Rattle.buffers.specs.Map.{at_table}
+use Rattle.matching.specs.Pairs.{Pair, Points, sum, hit, like, without}
+use Rattle.matching.specs.Pairing.{Once, seen}
+use Rattle.matching.specs.Origin.{Origin, Origins}
+use Rattle.matching.proofs.Tests.{Test, pass, fail, eq_test}
 use Rattle.matching.proofs.Sums.{times_none, sum_apart, like_hit}
-use Rattle.matching.proofs.Partner.{seen_turned, seen_off, seen_none, partner_none}
-use Rattle.matching.proofs.Partner.{partner_view, held_sum, held_free, partner_of}
-use Rattle.partners.specs.Table.{tag, joined, Mates, TableOnly}
+use Rattle.matching.proofs.Partner.{seen_turned, seen_off, seen_none}
+use Rattle.matching.proofs.Partner.{held_sum, held_free}
+use Rattle.partners.specs.Table.{tag, joined, parted, Mates, TableOnly}
 use Rattle.partners.proofs.Joining.{two_last, two_first, two_else, two_aside}
-use Rattle.partners.proofs.Tags.{tag_partner, tag_free, tag_held}
-use Rattle.undoing.specs.Unwinding.{parted, InTable}
 
 -- ---- two words of the table
 
-pub join_one : (k x y stamp : ℕ) (w2 : List ℕ) {w2' : List ℕ} → k ≡ 1 → w2' ≡ joined x y stamp w2
-    → w2' ≡ cond (eqb k 1) (joined x y stamp w2) w2
-join_one k x y stamp w2 e q = rw (eq-eqb k 1 e) q
+pub join_one : (k x y : ℕ) (origin : Origin) (w2 : List ℕ) {w2' : List ℕ} → k ≡ 1 → w2' ≡ joined x y origin w2
+    → w2' ≡ cond (eqb k 1) (joined x y origin w2) w2
+join_one k x y origin w2 e q = rw (eq-eqb k 1 e) q
 
-pub join_not : (k x y stamp : ℕ) (w2 : List ℕ) → k ≢ 1 → w2 ≡ cond (eqb k 1) (joined x y stamp w2) w2
-join_not k x y stamp w2 e = rw (ne_eqb k 1 e)
+pub join_not : (k x y : ℕ) (origin : Origin) (w2 : List ℕ) → k ≢ 1 → w2 ≡ cond (eqb k 1) (joined x y origin w2) w2
+join_not k x y origin w2 e = rw (ne_eqb k 1 e)
 
 pub parted_aside : (w2 : List ℕ) (x y : ℕ) → TableOnly w2 (parted x y w2)
 parted_aside w2 x y = two_aside w2 x y 0 0
@@ -74,36 +72,6 @@ mates_without w2 o m x y h k c l =
       sum_apart (seen (tag o c) c) (seen_turned (tag o c) c) x y m,
       times_none (seen (tag o c) c x y) (sum (like x y) m) k,
     )
-
--- ---- partners by the table
-
-partners_held : (x y : ℕ) (m : List Pair) → Once m → eqb (partner x m) (y + 1) ≡ held x y m
-partners_held x y m o = go (partner_view x m) (lt_test 0 (sum (like x y) m))
-  where
-    go : {t : Bool} → (sum (hit x) m ≡ 0) ⊎ ((b : ℕ) × (1 ≤ sum (like x b) m))
-        → Test (0 < sum (like x y) m) (sum (like x y) m ≤ 0) t → eqb (partner x m) (y + 1) ≡ t
-    go v (pass k) = eq-eqb (partner x m) (y + 1) (omega (arith, partner_of x y m o k))
-    go (inl z) (fail n) = ne_eqb (partner x m) (y + 1) (λ e. omega (arith, partner_none x m z))
-    go (inr (b, k)) (fail n) =
-        ne_eqb (partner x m) (y + 1)
-        (λ e. let q : b ≡ y = omega (arith, partner_of x b m o k) in
-        omega (arith, ap (λ d. sum (like x d) m) q))
-
-module _ (w2 : List ℕ) (c : ℕ) (l : c < 1024) (o : Origins) (m : List Pair) (h : InTable w2 o m) where
-  pub table_held : (y : ℕ) → eqb (get_or w2 (at_table + c) 0 % partner_field) (y + 1) ≡ held c y m
-  table_held y =
-      ap (λ (k : ℕ). eqb k (y + 1)) (tag_partner w2 o m h.mates c l h.once (omega arith) h.within)
-      ∙ partners_held c y m h.once
-
-  pub table_free : eqb (get_or w2 (at_table + c) 0) 0 ≡ free c m
-  table_free = go (partner_view c m)
-    where
-      go : (sum (hit c) m ≡ 0) ⊎ ((b : ℕ) × (1 ≤ sum (like c b) m)) → eqb (get_or w2 (at_table + c) 0) 0 ≡ free c m
-      go (inl z) =
-          eq-eqb (get_or w2 (at_table + c) 0) 0 (tag_free w2 o m h.mates c l z) ∙ sym (eq-eqb (sum (hit c) m) 0 z)
-      go (inr (b, k)) =
-          ne_eqb (get_or w2 (at_table + c) 0) 0 (λ e. omega (arith, tag_held w2 o m h.mates c l h.once b k))
-          ∙ sym (ne_eqb (sum (hit c) m) 0 (λ e. omega (arith, like_hit c b m c (inl refl))))
 
 -- a pair of a free cell is not held
 pub free_unheld : (x y c : ℕ) (m : List Pair) → (x ≡ c) ⊎ (y ≡ c) → sum (hit c) m ≡ 0 → sum (like x y) m ≡ 0

@@ -1,5 +1,6 @@
--- The stamps of a step's pairs. In order: the table by other origins that are the same on its pairs (`mates_agree`);
--- the pairs that a step puts in are from it (`stamped_new`), and the others from where they were (`stamped_old`).
+-- Where a step's pairs are from. In order: the table by other origins that are the same on its pairs (`mates_agree`);
+-- the pairs that a step puts in are from its origin (`stamped_new`), and the others from where they were
+-- (`stamped_old`).
 -- Assumes nothing.
 use mathlib.Core.Path.{◌≡◌, refl, ap₂, ◌∙◌}
 use mathlib.Core.Logic.{inl, inr, ◌≢◌}
@@ -9,12 +10,12 @@ use Prim.Native.Nat.{ℕ, ◌+◌, ◌≤◌}
 use native.Mathlib.Omega.{arith}
 use Rattle.matching.specs.Pairs.{Pair, sum, Each, hit, like, held}
 use Rattle.matching.specs.Pairing.{Once, seen}
-use Rattle.matching.specs.Steps.{Step, name}
-use Rattle.matching.specs.Origin.{Origins, from_step, stamped}
+use Rattle.matching.specs.Origin.{Origin, Origins}
 use Rattle.matching.proofs.Tests.{Test, pass, fail, eq_test, lt_test, fails}
 use Rattle.matching.proofs.Sums.{sum_append, like_hit, hit_some}
 use Rattle.matching.proofs.Origin.{each_held}
-use Rattle.partners.specs.Table.{tag, Mates}
+use Rattle.partners.specs.Table.{tag, IsFrom, Mates}
+use Rattle.undoing.specs.Unwinding.{stamped_with}
 
 -- ---- other origins
 
@@ -56,18 +57,14 @@ old_unheld new ((a, b) ∷ old) h = (
   old_unheld new old (λ c. omega (arith, h c)),
 )
 
-module _ (number : ℕ) (s : Step) (from : Origins) (new : List Pair) where
+module _ (origin : Origin) (from : Origins) (new : List Pair) where
   abbrev after : Origins
-  after = stamped number s new from
+  after = stamped_with origin new from
 
-  -- The pair is from the step.
-  abbrev FromStep : ℕ → ℕ → Type 0
-  FromStep a b = (after a b ≡ from_step number (name s).0) × (after b a ≡ from_step number (name s).0)
-
-  pub stamped_new : Each FromStep new
+  pub stamped_new : Each (IsFrom after origin) new
   stamped_new = go new (each_held new new (λ a b. omega arith))
     where
-      go : (l : List Pair) → Each (Both new true) l → Each FromStep l
+      go : (l : List Pair) → Each (Both new true) l → Each (IsFrom after origin) l
       go [] h = tt
       go (e ∷ l) h = ((rw h.0.0, rw h.0.1), go l h.1)
 

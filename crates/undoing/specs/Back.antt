@@ -14,16 +14,11 @@ use Rattle.matching.specs.Origin.{Origins, stamped, origins_by}
 use Rattle.trail.specs.Trail.{step_words, trail, Small}
 use Rattle.partners.specs.Table.{Mates}
 
--- The buffers have room.
-pub record Rooms (t : ℕ) (w1 w2 : List ℕ) : Type 0 where
-  pub room1 : 8192 ≤ length w1
-  pub room2 : 8192 ≤ length w2
-  pub most : t ≤ trail_room
-
 -- The last step on the trail of t words, of that number, as it stood on the graph w, and a pairing of the graph after
 -- it.
 pub record UndoThere (t number : ℕ) (w1 w2 : List ℕ) : Type 0 where
-  pub rooms : Rooms t w1 w2
+  pub room1 : 8192 ≤ length w1
+  pub most : t ≤ trail_room
   pub n : ℕ
   pub w : Points
   pub step : Step
@@ -49,7 +44,8 @@ pub record Undone (t number : ℕ) (w1 w2 w2' : List ℕ) (r : ℕ) (u : UndoThe
 
 -- The trail of all steps of a slip that is allowed, so many, and a pairing of what it leaves.
 pub record BackThere (t count : ℕ) (w1 w2 : List ℕ) : Type 0 where
-  pub rooms : Rooms t w1 w2
+  pub room1 : 8192 ≤ length w1
+  pub most : t ≤ trail_room
   pub n : ℕ
   pub w : Points
   pub steps : List Step

@@ -1,28 +1,17 @@
 -- What the parts of undoing a step ask and leave. Inner contracts cite this.
 use Rattle.std.specs.Prelude.{◌≡◌, Bool, not, cond, ◌&&◌, ◌||◌, List, [], ◌∷◌, ◌++◌, ℕ, ◌+◌, ◌≤◌, ◌<◌}
-use Rattle.std.specs.Prelude.{length, set, take, drop}
-use Rattle.buffers.specs.Map.{trail_room, at_table, unit}
+use Rattle.std.specs.Prelude.{length, take, drop}
+use Rattle.buffers.specs.Map.{trail_room, unit}
 use Rattle.matching.specs.Pairs.{Pair, Points, Each, keep, same, held}
 use Rattle.matching.specs.Pairing.{Pairing, Once}
 use Rattle.matching.specs.Graph.{Graph}
 use Rattle.matching.specs.Shapes.{IsStep}
-use Rattle.matching.specs.Steps.{Step, leaf, ring, chain, name, apply, added, undo, outweighs}
-use Rattle.matching.specs.Origin.{Origins, from_step, stamped}
+use Rattle.matching.specs.Steps.{Step, ring, chain, name, apply, added, undo, outweighs}
+use Rattle.matching.specs.Origin.{Origin, Origins, number_in}
 use Rattle.rows.specs.Row.{words_of_row, marked, less}
 use Rattle.trail.specs.Trail.{row_pairs}
-use Rattle.origins.specs.Stamps.{stamp_for}
-use Rattle.partners.specs.Table.{Within, Mates, TableOnly}
+use Rattle.partners.specs.Table.{IsFrom, Mates, TableOnly}
 use Rattle.undoing.specs.declared.Ends.{Ends}
-
--- The second buffer with the pair x, y taken out of the table.
-abbrev pub parted : ℕ → ℕ → List ℕ → List ℕ
-parted x y w2 = set (set w2 (at_table + x) 0) (at_table + y) 0
-
--- A pairing in the table, and where its pairs came from.
-pub record InTable (w2 : List ℕ) (from : Origins) (m : List Pair) : Type 0 where
-  pub once : Once m
-  pub within : Within 1024 m
-  pub mates : Mates w2 from m
 
 -- The table has the pairing m now; the trail did not change.
 pub record TableOf (w2 w2' : List ℕ) (from : Origins) (m : List Pair) : Type 0 where
@@ -35,15 +24,13 @@ pub record TableOf (w2 w2' : List ℕ) (from : Origins) (m : List Pair) : Type 0
 abbrev pub words_at : ℕ → List ℕ → List ℕ → List ℕ
 words_at a marks w2 = take (length marks) (drop a w2)
 
--- A pairing in the table: with the marked pairs of the row, which are from where the stamp says, no cell stands twice.
-pub record PutThere (a v stamp : ℕ) (marks w2 : List ℕ) : Type 0 where
+-- A pairing in the table: with the marked pairs of the row, which are from that origin, no cell stands twice.
+pub record PutThere (a v : ℕ) (origin : Origin) (marks w2 : List ℕ) : Type 0 where
   pub from : Origins
   pub pairs : List Pair
-  pub few : stamp < 16384
-  pub stamps : Each (λ x y. (stamp_for (from x y) ≡ stamp) × (stamp_for (from y x) ≡ stamp))
-      (marked marks (row_pairs (words_at a marks w2) v))
+  pub few : number_in origin < 2048
+  pub origins : Each (IsFrom from origin) (marked marks (row_pairs (words_at a marks w2) v))
   pub on_trail : a + length marks ≤ trail_room
-  pub room2 : 8192 ≤ length w2
   pub below : Each (λ x y. (x < 1024) × (y < 1024)) (row_pairs (words_at a marks w2) v)
   pub once : Once (marked marks (row_pairs (words_at a marks w2) v) ++ pairs)
   pub mates : Mates w2 from pairs
@@ -70,50 +57,40 @@ pub record RingFreed (u z : ℕ) (from : Origins) (m : List Pair) (w2 w2' : List
 
 -- ---- a step
 
--- A step of that number as it stood on the graph w, and a pairing of the graph after it in the table.
-pub record StepBack (stamp : ℕ) (w2 : List ℕ) (w : Points) (step : Step) (number : ℕ) (from : Origins)
-    (pairs : List Pair) : Type 0 where
+-- A step as it stood on the graph w, and a pairing of the graph after it in the table. The pairs that undoing the step
+-- puts in are from that origin.
+pub record StepBack (origin : Origin) (step : Step) (w2 : List ℕ) : Type 0 where
+  pub few : number_in origin < 2048
   pub n : ℕ
-  pub room2 : 8192 ≤ length w2
+  pub w : Points
+  pub from : Origins
+  pub pairs : List Pair
   pub cells : n ≤ 1024
   pub graph : Graph n w
   pub is : IsStep n w (name step).0 (name step).1 step
   pub small : (a b : ℕ) → w a b < unit
-  pub few : stamp < 16384
-  pub stamp_is : stamp_for (from_step number (name step).0) ≡ stamp
   pub pairing : Pairing (apply w step) pairs
   pub mates : Mates w2 from pairs
 
+-- The new pairs are from that origin, the others from where they were.
+abbrev pub stamped_with : Origin → List Pair → Origins → Origins
+stamped_with origin new from a b = cond (held a b new) origin (from a b)
+
 -- It is undone.
-abbrev pub UndoneTable : (w2 w2' : List ℕ) (w : Points) (step : Step) (number : ℕ) (from : Origins) (pairs : List Pair)
-    → Type 0
-UndoneTable w2 w2' w step number from pairs =
-    TableOf w2 w2' (stamped number step (added w step pairs) from) (undo w step pairs)
+abbrev pub UndoneTable : {origin : Origin} {step : Step} {w2 : List ℕ} → StepBack origin step w2 → List ℕ → Type 0
+UndoneTable {origin} {step} {w2} b w2' =
+    TableOf w2 w2' (stamped_with origin (added b.w step b.pairs) b.from) (undo b.w step b.pairs)
 
-pub record LeafBack (u v stamp : ℕ) (w2 : List ℕ) : Type 0 where
-  pub w : Points
-  pub number : ℕ
-  pub from : Origins
-  pub pairs : List Pair
-  pub back : StepBack stamp w2 w (leaf u v) number from pairs
-
-pub record RingBack (a u z stamp : ℕ) (marks w2 : List ℕ) : Type 0 where
-  pub w : Points
+-- A ring, and a chain, whose row stands on the trail from place a on.
+pub record RingBack (a u z : ℕ) (origin : Origin) (marks w2 : List ℕ) : Type 0 where
   pub inner : List ℕ
-  pub number : ℕ
-  pub from : Origins
-  pub pairs : List Pair
-  pub back : StepBack stamp w2 w (ring u z inner) number from pairs
+  pub back : StepBack origin (ring u z inner) w2
   pub on_trail : a + length marks ≤ trail_room
-  pub words : words_at a marks w2 ≡ words_of_row w u inner u
+  pub words : words_at a marks w2 ≡ words_of_row back.w u inner u
 
-pub record ChainBack (a u v z : ℕ) (more : Bool) (stamp : ℕ) (marks w2 : List ℕ) : Type 0 where
-  pub w : Points
+pub record ChainBack (a u v z : ℕ) (more : Bool) (origin : Origin) (marks w2 : List ℕ) : Type 0 where
   pub inner : List ℕ
-  pub number : ℕ
-  pub from : Origins
-  pub pairs : List Pair
-  pub back : StepBack stamp w2 w (chain u v z inner) number from pairs
+  pub back : StepBack origin (chain u v z inner) w2
   pub on_trail : a + length marks ≤ trail_room
-  pub words : words_at a marks w2 ≡ words_of_row w u inner v
-  pub direct : more ≡ outweighs w u v inner
+  pub words : words_at a marks w2 ≡ words_of_row back.w u inner v
+  pub direct : more ≡ outweighs back.w u v inner

@@ -2,68 +2,52 @@
 // specs/Unwinding for its parts.
 #![tactic(auto)]
 
-ghost use Rattle.std.specs.Prelude.{◌≡◌, cond, List, ◌++◌, ◌≤◌, ◌<◌, eqb, length};
-ghost use Rattle.matching.specs.Pairs.{Pair, held};
-ghost use Rattle.matching.specs.Steps.{leaf, ring, chain};
-ghost use Rattle.matching.specs.Origin.{Origins, from_step};
+ghost use Rattle.std.specs.Prelude.{◌≡◌, cond, List, ◌++◌, ◌<◌, eqb};
+ghost use Rattle.matching.specs.Pairs.{Pair};
+ghost use Rattle.matching.specs.Steps.{leaf};
+ghost use Rattle.matching.specs.Origin.{Origins, number_in};
 ghost use Rattle.rows.specs.Row.{marked};
 ghost use Rattle.trail.specs.Trail.{row_pairs};
-ghost use Rattle.cellfile.specs.Kinds.{as_rule};
-ghost use Rattle.origins.specs.Stamps.{stamp_for};
-ghost use Rattle.partners.specs.Table.{joined};
+ghost use Rattle.origins.specs.Stamps.{as_origin};
+ghost use Rattle.partners.specs.Table.{joined, InTable, SameBuffer};
 ghost use Rattle.undoing.specs.Back.{UndoThere, Undone, BackThere, Lifted};
-ghost use Rattle.undoing.specs.Unwinding.{parted, InTable, TableOf, words_at, PutThere};
-ghost use Rattle.undoing.specs.Unwinding.{ChainFreed, RingFreed, UndoneTable, LeafBack, RingBack, ChainBack};
+ghost use Rattle.undoing.specs.Unwinding.{TableOf, words_at, PutThere};
+ghost use Rattle.undoing.specs.Unwinding.{ChainFreed, RingFreed, UndoneTable, StepBack, RingBack, ChainBack};
 
-use buffers::map::{PARTNER_FIELD, TABLE};
 use cellfile::format::Rule;
 use finding::Step;
 use origins::Origin;
-use partners;
+use partners::table::Table;
 use rows::Row;
 use trail::words;
 
-// The pair x, y goes out of the table.
-fn part(w2: &mut [u64], x: usize, y: usize)
-    requires { (8192 ≤ length w2.old) × (x < 1024) × (y < 1024) }
-    ensures { w2.new ≡ parted x y w2.old }
-{
-    w2[TABLE + x] = 0;
-    w2[TABLE + y] = 0;
-}
-
-// The pair x, y comes into the table, with its stamp, where the mark is 1.
-fn join_marked(w2: &mut [u64], mark: u64, x: usize, y: usize, stamp: u64)
-    requires { (8192 ≤ length w2.old) × (x < 1024) × (y < 1024) × (stamp < 16384) }
-    ensures { w2.new ≡ cond (eqb mark 1) (joined x y stamp w2.old) w2.old }
+// The pair x, y comes into the table, with where it is from, where the mark is 1.
+fn join_marked(table: &mut Table<'_>, mark: u64, x: usize, y: usize, origin: Origin)
+    requires { (x < 1024) × (y < 1024) × (number_in (as_origin origin) < 2048) }
+    ensures joined { table.new.words.now
+        ≡ cond (eqb mark 1) (joined x y (as_origin origin) table.old.words.now) table.old.words.now }
+    ensures same { SameBuffer table.old table.new }
 {
     if mark == 1 {
-        partners::join(w2, x, y, stamp);
+        table.join(x, y, origin);
     }
 }
 
 // The marked pairs of the row whose words stand on the trail from place a on, to its end v, come into the table, the
-// last first, with this stamp.
-fn put_marked(marks: &[u64], w2: &mut [u64], a: usize, v: usize, stamp: u64)
-    requires { PutThere a v stamp marks.now w2.old }
-    ensures { (p : PutThere a v stamp marks.now w2.old)
-        → TableOf w2.old w2.new p.from
-        (marked marks.now (row_pairs (words_at a marks.now w2.old) v) ++ p.pairs) }
+// last first, from this origin.
+fn put_marked(marks: &[u64], table: &mut Table<'_>, a: usize, v: usize, origin: Origin)
+    requires { PutThere a v (as_origin origin) marks.now table.old.words.now }
+    ensures put { (p : PutThere a v (as_origin origin) marks.now table.old.words.now)
+        → TableOf table.old.words.now table.new.words.now p.from
+        (marked marks.now (row_pairs (words_at a marks.now table.old.words.now) v) ++ p.pairs) }
+    ensures same { SameBuffer table.old table.new }
 {
     let mut to = v;
     for j in (0..marks.len()).rev() {
-        let from = words::cell_of(w2[a + j]);
-        join_marked(w2, marks[j], from, to, stamp);
+        let from = words::cell_of(table.words[a + j]);
+        join_marked(table, marks[j], from, to, origin);
         to = from;
     }
-}
-
-// Whether x and y are partners.
-fn are_partners(w2: &[u64], x: usize, y: usize) -> bool
-    requires { (8192 ≤ length w2.now) × (x < 1024) × (y < 1024) }
-    ensures { (o : Origins) (m : List Pair) → InTable w2.now o m → result ≡ held x y m }
-{
-    w2[TABLE + x] % PARTNER_FIELD == y as u64 + 1
 }
 
 // Which ends of a chain its part leaves free.
@@ -74,27 +58,28 @@ struct Ends {
 }
 
 // The pair that a chain step put for its row goes out of the table, where it is held.
-fn free_chain(w2: &mut [u64], u: usize, v: usize, z: usize, more: bool) -> Ends
-    requires { (8192 ≤ length w2.old) × (u < 1024) × (v < 1024) × (z < 1024) }
-    ensures { (o : Origins) (m : List Pair) → InTable w2.old o m
-        → ChainFreed u v z more o m w2.old w2.new result }
+fn free_chain(table: &mut Table<'_>, u: usize, v: usize, z: usize, more: bool) -> Ends
+    requires { (u < 1024) × (v < 1024) × (z < 1024) }
+    ensures freed { (o : Origins) (m : List Pair) → InTable table.old.words.now o m
+        → ChainFreed u v z more o m table.old.words.now table.new.words.now result }
+    ensures same { SameBuffer table.old table.new }
 {
-    if are_partners(w2, u, z) {
-        part(w2, u, z);
+    if table.has(u, z) {
+        table.part(u, z);
         return Ends {
             less_u: false,
             less_v: true,
         };
     }
-    if are_partners(w2, v, z) {
-        part(w2, v, z);
+    if table.has(v, z) {
+        table.part(v, z);
         return Ends {
             less_u: true,
             less_v: false,
         };
     }
-    if !more && are_partners(w2, u, v) {
-        part(w2, u, v);
+    if !more && table.has(u, v) {
+        table.part(u, v);
         return Ends {
             less_u: false,
             less_v: false,
@@ -107,83 +92,83 @@ fn free_chain(w2: &mut [u64], u: usize, v: usize, z: usize, more: bool) -> Ends
 }
 
 // The pair that a ring step put for its row goes out of the table, where it is held; else the part leaves u free.
-fn free_ring(w2: &mut [u64], u: usize, z: usize) -> bool
-    requires { (8192 ≤ length w2.old) × (u < 1024) × (z < 1024) }
-    ensures { (o : Origins) (m : List Pair) → InTable w2.old o m
-        → RingFreed u z o m w2.old w2.new result }
+fn free_ring(table: &mut Table<'_>, u: usize, z: usize) -> bool
+    requires { (u < 1024) × (z < 1024) }
+    ensures freed { (o : Origins) (m : List Pair) → InTable table.old.words.now o m
+        → RingFreed u z o m table.old.words.now table.new.words.now result }
+    ensures same { SameBuffer table.old table.new }
 {
-    if are_partners(w2, u, z) {
-        part(w2, u, z);
+    if table.has(u, z) {
+        table.part(u, z);
         return false;
     }
     true
 }
 
-// The way back of a leaf.
-fn undo_leaf(w2: &mut [u64], u: usize, v: usize, stamp: u64)
-    requires { LeafBack u v stamp w2.old }
-    ensures { (b : LeafBack u v stamp w2.old) → UndoneTable w2.old w2.new
-        b.w (leaf u v) b.number b.from b.pairs }
+// The way back of a leaf. The pair that it puts in is from that origin.
+fn undo_leaf(table: &mut Table<'_>, u: usize, v: usize, origin: Origin)
+    requires { StepBack (as_origin origin) (leaf u v) table.old.words.now }
+    ensures back { (b : StepBack (as_origin origin) (leaf u v) table.old.words.now)
+        → UndoneTable b table.new.words.now }
+    ensures same { SameBuffer table.old table.new }
 {
-    if w2[TABLE + u] == 0 {
-        partners::join(w2, u, v, stamp);
+    if table.is_free(u) {
+        table.join(u, v, origin);
     }
 }
 
-// The way back of a ring whose words stand on the trail from place a on, as many as there is room for marks.
-fn undo_ring(marks: &mut [u64], w2: &mut [u64], a: usize, u: usize, z: usize, stamp: u64)
-    requires { RingBack a u z stamp marks.old w2.old }
-    ensures { (b : RingBack a u z stamp marks.old w2.old)
-        → UndoneTable w2.old w2.new b.w (ring u z b.inner) b.number b.from
-        b.pairs }
+// The way back of a ring whose words stand on the trail from place a on, as many as there is room for marks. The pairs
+// that it puts in are from that origin.
+fn undo_ring(marks: &mut [u64], table: &mut Table<'_>, a: usize, u: usize, z: usize, origin: Origin)
+    requires { RingBack a u z (as_origin origin) marks.old table.old.words.now }
+    ensures back { (b : RingBack a u z (as_origin origin) marks.old table.old.words.now)
+        → UndoneTable b.back table.new.words.now }
+    ensures same { SameBuffer table.old table.new }
 {
-    let less_u = free_ring(w2, u, z);
+    let less_u = free_ring(table, u, z);
     let end = a + marks.len();
     marks.fill(0);
-    let row = Row { words: &w2[a..end] };
+    let row = Row {
+        words: table.trail(a, end),
+    };
     row.mark_ring(less_u, marks);
-    put_marked(marks, w2, a, u, stamp);
+    put_marked(marks, table, a, u, origin);
 }
 
 // The way back of a chain, likewise.
 fn undo_chain(
     marks: &mut [u64],
-    w2: &mut [u64],
+    table: &mut Table<'_>,
     a: usize,
     u: usize,
     v: usize,
     z: usize,
     more: bool,
-    stamp: u64,
+    origin: Origin,
 )
-    requires { ChainBack a u v z more stamp marks.old w2.old }
-    ensures { (b : ChainBack a u v z more stamp marks.old w2.old)
-        → UndoneTable w2.old w2.new b.w (chain u v z b.inner) b.number b.from
-        b.pairs }
+    requires { ChainBack a u v z more (as_origin origin) marks.old table.old.words.now }
+    ensures back { (b : ChainBack a u v z more (as_origin origin) marks.old table.old.words.now)
+        → UndoneTable b.back table.new.words.now }
+    ensures same { SameBuffer table.old table.new }
 {
-    let ends = free_chain(w2, u, v, z, more);
+    let ends = free_chain(table, u, v, z, more);
     let end = a + marks.len();
     marks.fill(0);
-    let row = Row { words: &w2[a..end] };
+    let row = Row {
+        words: table.trail(a, end),
+    };
     row.mark_chain(ends.less_u, ends.less_v, marks);
-    put_marked(marks, w2, a, v, stamp);
-}
-
-// The stamp of the pairs that undoing a step puts in.
-fn stamp_by(number: u64, rule: Rule) -> u64
-    requires { number < 2048 }
-    ensures { (stamp_for (from_step number (as_rule rule)) ≡ result) × (result < 16384) }
-{
-    Origin::Step { number, rule }.stamp()
+    put_marked(marks, table, a, v, origin);
 }
 
 // Undoes the last step on the trail of t words, which has that number: the words of the trail that are left.
-fn undo_step(w1: &mut [u64], w2: &mut [u64], t: usize, number: u64) -> usize
-    requires { UndoThere t number w1.old w2.old }
-    ensures { (u : UndoThere t number w1.old w2.old)
-        → Undone t number w1.old w2.old w2.new result u }
+fn undo_step(w1: &mut [u64], table: &mut Table<'_>, t: usize, number: u64) -> usize
+    requires { UndoThere t number w1.old table.old.words.now }
+    ensures back { (u : UndoThere t number w1.old table.old.words.now)
+        → Undone t number w1.old table.old.words.now table.new.words.now result u }
+    ensures same { SameBuffer table.old table.new }
 {
-    let word = w2[t - 1];
+    let word = table.words[t - 1];
     let k = words::pairs_of(word);
     let a = t - 1 - k;
     let Some(step) = words::step_of(word) else {
@@ -191,32 +176,42 @@ fn undo_step(w1: &mut [u64], w2: &mut [u64], t: usize, number: u64) -> usize
     };
     match step {
         Step::Leaf { v, u } => {
-            let stamp = stamp_by(number, Rule::Leaf);
-            undo_leaf(w2, u, v, stamp);
+            let origin = Origin::Step {
+                number,
+                rule: Rule::Leaf,
+            };
+            undo_leaf(table, u, v, origin);
             a
         }
         Step::Ring { u, z } => {
-            let stamp = stamp_by(number, Rule::Ring);
-            undo_ring(&mut w1[..k], w2, a, u, z, stamp);
+            let origin = Origin::Step {
+                number,
+                rule: Rule::Ring,
+            };
+            undo_ring(&mut w1[..k], table, a, u, z, origin);
             a
         }
         Step::Chain { u, v, z } => {
-            let stamp = stamp_by(number, Rule::Chain);
+            let origin = Origin::Step {
+                number,
+                rule: Rule::Chain,
+            };
             let more = words::more_of(word);
-            undo_chain(&mut w1[..k], w2, a, u, v, z, more, stamp);
+            undo_chain(&mut w1[..k], table, a, u, v, z, more, origin);
             a
         }
     }
 }
 
 // The way back through all the steps on the trail of t words, last step first.
-pub fn lift_back(w1: &mut [u64], w2: &mut [u64], t: usize, steps: usize)
-    requires { BackThere t steps w1.old w2.old }
-    ensures { (b : BackThere t steps w1.old w2.old)
-        → Lifted t steps w1.old w2.old w2.new b }
+pub fn lift_back(w1: &mut [u64], table: &mut Table<'_>, t: usize, steps: usize)
+    requires { BackThere t steps w1.old table.old.words.now }
+    ensures back { (b : BackThere t steps w1.old table.old.words.now)
+        → Lifted t steps w1.old table.old.words.now table.new.words.now b }
+    ensures same { SameBuffer table.old table.new }
 {
     let mut left = t;
     for number in (1..=steps).rev() {
-        left = undo_step(w1, w2, left, number as u64);
+        left = undo_step(w1, table, left, number as u64);
     }
 }

@@ -1,35 +1,36 @@
 -- Laws of the view. In order: how many entries are shown, by what the check of the list answers; what is served, with
 -- the number that is shown, by the tests of the place. Assumes nothing.
 use Prim.Native.Nat.{ℕ, ◌<◌, ◌≤◌}
-use mathlib.Core.Path.{◌≡◌, refl, sym, ap}
+use mathlib.Core.Path.{◌≡◌, refl, sym, ap, ◌∙◌}
 use mathlib.Core.Bool.{Bool, true, false, cond, ◌&&◌}
 use mathlib.Core.List.{List, [], ◌∷◌}
 use native.Mathlib.Omega.{arith}
 use borrow.Author.Tests.{lt-ltb, le-ltb, eq-eqb, ne_eqb, eqb-true}
 use lib.Dec.{eqb, ltb}
 use lib.ListN.{get_or}
+use Rattle.std.specs.Prelude.{Result, Ok, Err, IfOk, MatchResult}
 use Rattle.matching.specs.Listed.{Entry as ListEntry}
 use Rattle.cellfile.specs.Files.{count_of, list_layout, entries_all, as_fields}
 use Rattle.checks.specs.Refusals.{first, lists, list_rows}
 use Rattle.cellfile.specs.Answers.{Answer}
 use Rattle.cellfile.specs.Reads.{EntryRead, WholeFile}
 use Rattle.cellfile.specs.declared.decode.Entry.{Entry}
-use Rattle.checks.specs.Calls.{number}
+use Rattle.checks.specs.Calls.{refusal_in}
 use Rattle.checks.specs.declared.Refusal.{Refusal}
+use Rattle.checks.specs.declared.lists.StoreList.{StoreList}
 use Rattle.checks.proofs.Layers.{number_some}
 use Rattle.checks.proofs.Accepted.{list_fits}
 use Rattle.view.specs.Serving.{serving, shown}
 
 -- ---- how many entries are shown
 
-module _ (list : List ℕ) where
-  pub shown_refused : (r : Refusal) → number r ≡ first (list_rows lists list) → 0 ≡ shown list
-  unfolding shown
-  shown_refused r e = rw (ne_eqb (first (list_rows lists list)) 0 (λ q. omega (arith, e, number_some r)))
-
-  pub shown_accepted : {m : ℕ} → 0 ≡ first (list_rows lists list) → m ≡ count_of list → m ≡ shown list
-  unfolding shown
-  shown_accepted e h = rw (eq-eqb (first (list_rows lists list)) 0 (sym e)) h
+pub shown_checked : (list : List ℕ) (r : Result StoreList Refusal) (m : ℕ) → refusal_in r ≡ first (list_rows lists list)
+    → IfOk r (λ l. l.entries.file.now ≡ list) → MatchResult r (λ l. m ≡ l.entries.m) (λ _. m ≡ 0) → m ≡ shown list
+unfolding shown
+shown_checked list (Ok l) m e f h =
+    rw (eq-eqb (first (list_rows lists list)) 0 (sym e)) (h ∙ l.entries.whole.count ∙ ap count_of f)
+shown_checked list (Err r) m e f h =
+    rw (ne_eqb (first (list_rows lists list)) 0 (λ q. omega (arith, e, number_some r))) h
 
 -- ---- what is served of a view of the list
 

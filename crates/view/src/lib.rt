@@ -14,10 +14,7 @@ pub use lent::View;
 fn shown(list: &[u8]) -> usize
     ensures { result ≡ shown_of list.now }
 {
-    match checks::check_list(list) {
-        Ok(accepted) => accepted.entries.m,
-        Err(_) => 0,
-    }
+    checks::check_list(list).map_or(0, |accepted| accepted.entries.m)
 }
 
 // The view of the list.

@@ -1,13 +1,13 @@
 -- Laws of weighing: refusal 10 and the points of a pairing (`pairs_twice`, `pairs_found`); what each check refuses; the
 -- whole call answers the points just where nothing is refused (`weigh_passes`, `weigh_sound`).
 use Prim.Native.Nat.{ℕ, suc}
-use mathlib.Core.Path.{◌≡◌, refl, sym, ap, ◌∙◌}
-use mathlib.Core.Bool.{Bool, true, false, not, cond}
+use mathlib.Core.Path.{◌≡◌, refl, ap, ◌∙◌}
+use mathlib.Core.Bool.{Bool, true, false, not, cond, ◌&&◌}
 use mathlib.Core.List.{List, [], ◌∷◌, ◌++◌}
 use mathlib.Core.Option.{some, none}
 use native.Mathlib.Omega.{arith}
 use native.Mathlib.Nat.{zero-add}
-use borrow.Author.Tests.{not-true, not-false}
+use borrow.Author.Tests.{not-false}
 use lib.ListN.{get_or}
 use Rattle.matching.specs.Lists.{distinct}
 use Rattle.matching.specs.Pairs.{Pair}
@@ -19,7 +19,7 @@ use Rattle.cellfile.specs.Answers.{Answer, answer}
 use Rattle.checks.specs.Refusals.{Row, first, too_few_words, lists, list_rows, bad_pairing, no_pairing}
 use Rattle.checks.specs.Calls.{number, answered, one, call_rows, form_row}
 use Rattle.checks.specs.declared.Refusal.{Refusal}
-use Rattle.checks.proofs.Layers.{refusal_answers, after_refused, after_passed, call_passes, call_sound}
+use Rattle.checks.proofs.Layers.{number_some, after_passed, call_passes, call_sound}
 use Rattle.checks.proofs.Merge.{join_all, merge_is, entries_ascend, pairs_ascend}
 use Rattle.weighing.specs.Weigh.{pair_row, weight, weighing}
 use Rattle.std.specs.Prelude.{Result}
@@ -39,19 +39,24 @@ module _ (list pairing : List ℕ) where
 
   -- ---- refusal 10 and the points
 
-  pub pairs_twice : {t : Bool} → t ≡ not (distinct (cells ps)) → t ≡ true
-      → (10, []) ≡ answer (first (pair_row list pairing ∷ [])) (weight list pairing)
+  pub pairs_twice : (r : Refusal) → number r ≡ first ((10, not (distinct (cells ps))) ∷ [])
+      → (number r, []) ≡ answer (first (pair_row list pairing ∷ [])) (weight list pairing)
   unfolding is_pairing
-  pairs_twice e h = rw (not-true (distinct (cells ps)) (sym e ∙ h))
+  pairs_twice r = go (distinct (cells ps)) _
+    where
+      go : (t s : Bool) → number r ≡ first ((10, not t) ∷ [])
+          → (number r, []) ≡ answer (first ((10, not (t && s)) ∷ [])) (weight list pairing)
+      go true s e = absurd (omega (arith, e, number_some r))
+      go false s e = rw e
 
   module _ (accepted : first (list_rows lists list) ≡ 0) (formed : bad_pairing (cells_of list) pairing ≡ false) where
-    pub pairs_found : {t : Bool} {r : Result ℕ Refusal} → t ≡ not (distinct (cells ps)) → t ≡ false
+    pub pairs_found : {r : Result ℕ Refusal} → not (distinct (cells ps)) ≡ false
         → r ≡ merged es ps 0 → answered one r ≡ answer (first (pair_row list pairing ∷ [])) (weight list pairing)
     unfolding is_pairing
-    pairs_found e h m =
-        ap (answered one) (m ∙ ap as_weighed (merge_is es ps 0 (entries_ascend list accepted) (pairs_ascend list accepted
-        pairing formed)))
-        ∙ rw (not-false (distinct (cells ps)) (sym e ∙ h), zero-add (points es ps)) (go (join_all es ps))
+    pairs_found h m =
+        ap (answered one) (m ∙ ap as_weighed (merge_is es ps 0 (entries_ascend list accepted)
+        (pairs_ascend list accepted pairing formed)))
+        ∙ rw (not-false (distinct (cells ps)) h, zero-add (points es ps)) (go (join_all es ps))
       where
         go : (t : Bool) → answered one (as_weighed (cond t (some (points es ps)) none))
             ≡ answer (first ((10, not t) ∷ [])) (points es ps ∷ [])
@@ -67,18 +72,9 @@ module _ (list pairing : List ℕ) where
     abbrev before : List Row
     before = call_rows (too_few_words lent) list
 
-    pub weigh_refused : (r : Refusal) → number r ≡ first before → (number r, []) ≡ weighing list pairing lent
-    weigh_refused r e = refusal_answers (before ++ rows) (weight list pairing) r (after_refused before rows r e)
-
     module _ (passed : 0 ≡ first before) where
       behind : {k : ℕ} → k ≡ first rows → k ≡ first (before ++ rows)
       behind = after_passed before rows (omega arith) passed
-
-      pub pairing_refused : (r : Refusal) → number r ≡ first (form_row (cells_of list) pairing ∷ [])
-          → (number r, []) ≡ weighing list pairing lent
-      pairing_refused r e =
-          refusal_answers (before ++ rows) (weight list pairing) r
-          (behind (after_refused (form_row (cells_of list) pairing ∷ []) (pair_row list pairing ∷ []) r e))
 
       pub pairing_passed : {a : Answer} → 0 ≡ first (form_row (cells_of list) pairing ∷ [])
           → a ≡ answer (first (pair_row list pairing ∷ [])) (weight list pairing)

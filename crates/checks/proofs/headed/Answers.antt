@@ -24,4 +24,13 @@ pub returns : goal.returns
 unfolding misheaded
 returns g c =
     let long = c.file_bytes.ensures (cells_of c.args.file.now) in
-    grind (arith, nat_tests, long, c.KIND-2.ensures, c.header_at-h.ensures, c.from.ensures, c.KIND.ensures, c.new.ensures)
+    grind (
+      arith,
+      nat_tests,
+      long,
+      c.KIND-2.ensures,
+      c.header_at-h.ensures,
+      c.from.ensures,
+      c.KIND.ensures,
+      c.new.ensures,
+    )

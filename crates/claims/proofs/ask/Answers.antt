@@ -17,7 +17,8 @@ start c =
     let a = c.args in
     given a.list.now a.slip.now a.pairing.now a.work_a.now a.work_b.now a.short.now a.lifted.now a.origins.now
 
-replayed : (c : In_ok-j) → ReplayDid (start c) (0, c.in_ok-i.i ∷ []) c.replay.new.short c.replay.new.work_a c.replay.new.work_b
+replayed : (c : In_ok-j) → ReplayDid (start c) (0, c.in_ok-i.i ∷ []) c.replay.new.short c.replay.new.work_a
+    c.replay.new.work_b
 replayed c = let e = c.in_ok-i.ensures in (e.answer, (e.output, e.cleared))
 
 lifted : (c : In_ok-j)

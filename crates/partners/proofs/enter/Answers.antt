@@ -21,22 +21,10 @@ invariant_of-graph c = let g = c.args.graph.now in
           (λ j a b. c.enter_pairs.ensures.aside j (omega arith));
     }
 
-pub returns-then-enter_pairs : goal.returns-then-enter_pairs
-returns-then-enter_pairs c = record {
-  refusal = rw (filled_is _ _ c.is_missing.ensures c.if-is_missing.false
-      (rw c.if-enter_pairs.true at c.enter_pairs.ensures.answer));
-  mates = tt;
-  aside = c.enter_pairs.ensures.aside;
-  slots = refl;
-  first_kept = refl;
-  buffers = record { first = refl; second = refl };
-}
-
 pub returns : goal.returns
 returns c = record {
-  refusal = rw (filled_is _ _ c.is_missing.ensures c.if-is_missing.false
-      (rw c.if-enter_pairs.false at c.enter_pairs.ensures.answer));
-  mates = c.enter_pairs.ensures.mates c.if-enter_pairs.false;
+  refusal = filled_is _ _ c.is_missing.ensures c.if-is_missing.false c.enter_pairs.ensures.refusal;
+  mates = c.enter_pairs.ensures.mates;
   aside = c.enter_pairs.ensures.aside;
   slots = refl;
   first_kept = refl;

@@ -5,7 +5,7 @@ use Rattle.partners.proofs.list_pairs.Goals as goal
 use Rattle.partners.proofs.list_pairs.Goals.{then-low-p, else-low-p}
 
 pub loop-c-init : goal.loop-c-init
-loop-c-init c = let a = c.args in record { long = refl; read = read_start a.n a.w2.now a.w1.now }
+loop-c-init c = let a = c.args in record { long = refl; read = read_start a.n a.table.now.words.now a.w1.now }
 
 pub record_of-requires : goal.record_of-requires
 record_of-requires c =

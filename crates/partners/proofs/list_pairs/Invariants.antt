@@ -4,4 +4,8 @@ use Rattle.partners.proofs.Tabled.{Reading}
 use Rattle.partners.proofs.list_pairs.Given as goal
 
 abbrev pub invariant-loop-c : goal.invariant-loop-c
-invariant-loop-c l = record { long : length l.w1 ≡ length l.initial.w1; read : Reading l.n l.w2 l.w1 l.c l.r }
+invariant-loop-c l = record {
+  long : length l.w1 ≡ length l.initial.w1;
+  read : Reading l.n l.table.words.now l.w1 l.c
+      l.r;
+}

@@ -20,7 +20,8 @@ reduced : (c : In_ok-slip_length)
     → (first (list_rows lists c.args.list.now) ≡ 0)
     × (c.in_ok-slip_length.slip_length ≡ length (slip_file c.args.list.now (reduce_steps c.args.list.now)))
     × (c.in_ok-slip_length.short_length ≡ length (short_file c.args.list.now (reduce_steps c.args.list.now)))
-reduced c = reduce_passes c.args.list.now 8192 8192 (omega arith) (omega arith) 2052 32780 c.in_ok-slip_length.ensures.answer
+reduced c = reduce_passes c.args.list.now 8192 8192 (omega arith) (omega arith) 2052 32780
+    c.in_ok-slip_length.ensures.answer
 
 short_fits : (c : In_ok-slip_length) → c.in_ok-slip_length.short_length ≤ length c.reduce.new.short
 short_fits c =
@@ -33,7 +34,8 @@ passed : (c : In_ok-length)
 passed c =
     pair_passes c.args.list.now (length c.reduce.new.work_a) (length c.reduce.new.work_b)
     (omega (arith, c.reduce.auto.work_a)) (omega (arith, c.reduce.auto.work_b))
-    (reduced (goal.at.In_ok-length c).In_ok-slip_length).0 1540 2564 (omega arith) (omega arith) c.in_ok-length.ensures.answer
+    (reduced (goal.at.In_ok-length c).In_ok-slip_length).0 1540 2564 (omega arith) (omega arith)
+    c.in_ok-length.ensures.answer
 
 pairing_fits : (c : In_ok-length) → c.in_ok-length.length ≤ length c.pair.new.pairing
 pairing_fits c =
@@ -80,7 +82,7 @@ returns-in_err-slip_length c =
     let p = err_from_is_err_and c.from_residual.result c.from_residual.ensures.1 in
     rw (p.1, p.2) (
       c.requires,
-      reduce_refuses c.args.list.now 8192 8192 (omega arith) (omega arith) 2052 32780 (omega arith) (omega arith) _
+      reduce_refuses c.args.list.now 8192 8192 (omega arith) (omega arith) 2052 32780 (omega arith) (omega arith)
           c.in_err-slip_length.ensures.answer,
     )
 
@@ -92,6 +94,6 @@ returns-in_err-length c =
       c.requires,
       pair_refuses c.args.list.now (length c.reduce.new.work_a) (length c.reduce.new.work_b)
           (omega (arith, c.reduce.auto.work_a)) (omega (arith, c.reduce.auto.work_b))
-          (reduced (goal.at.returns-in_err-length c).In_ok-slip_length).0 1540 2564 (omega arith) (omega arith) _
+          (reduced (goal.at.returns-in_err-length c).In_ok-slip_length).0 1540 2564 (omega arith) (omega arith)
           c.in_err-length.ensures.answer,
     )

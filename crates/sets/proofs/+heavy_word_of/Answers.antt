@@ -5,9 +5,16 @@ use Rattle.sets.proofs.Places.{fewer_first, next_within, fewer_next}
 use Rattle.sets.proofs.Heaviest.{best_none, word_light}
 use Rattle.sets.proofs.Tried.{tried_first, tried_all, tried_fits, tried_out, tried_light, tried_next}
 use Rattle.sets.proofs.Known.{kept_none, kept_all, kept_more, ready_small, ready_kept}
+use Rattle.std.proofs.Common.{◌≡◌, max}
+use Rattle.std.specs.Ordering.{ord_max}
+use Rattle.sets.specs.declared.Word.{Word}
+use Rattle.sets.specs.contracts.WordOrd.TheImpl.{cmp-value}
 use Rattle.sets.proofs.+heavy_word_of.Goals as goal
 use Rattle.sets.proofs.+heavy_word_of.Goals.{heavy-then-rest-q-eq1+then-x-gt0, heavy-then-rest-q-eq1+else-x-gt0}
 use Rattle.sets.proofs.+heavy_word_of.Goals.{heavy-else-rest-q-eq1}
+
+greater : (a b : Word) → (ord_max cmp-value.it a b).0 ≡ max a.0 b.0
+greater a b = grind arith
 
 pub heavy-returns-then-s-eq0 : goal.heavy-returns-then-s-eq0
 heavy-returns-then-s-eq0 t c =
@@ -61,7 +68,7 @@ heavy-loop-q-preserved t c = let i = c.loop-q.invariant in
       | heavy-then-rest-q-eq1+then-x-gt0 w ↦
           let h = w.word_of-then-x-gt0.ensures in
           let b = w.of-then-x-gt0.ensures in
-          rw (w.w1-is, w.best-is, w.max-best.ensures) record {
+          rw (w.w1-is, w.best-is, w.max-best.ensures, greater c.loop-q.best w.of-then-x-gt0.result) record {
             ready = ready_kept i.ready h.1 (omega arith);
             kept = kept_all i.kept h.1;
             tried =

@@ -1,6 +1,7 @@
 -- `join_group` takes the places out of the set, the lowest first.
 use mathlib.Core.Path.{ap, ◌∙◌}
 use native.Mathlib.Omega.{arith}
+use borrow.Author.Rules.{rules}
 use Rattle.sets.specs.Sets.{points}
 use Rattle.solving.proofs.Joining.{set_words, join_ready, joining_ready, joining_start, joining_alone}
 use Rattle.solving.proofs.Joining.{joining_within, joining_cells, joining_pair, joining_end}
@@ -38,15 +39,20 @@ join-requires c =
     let h = c.loop-left.invariant _ _ _ _ c.requires.3 c.points_of-points.ensures.1 in
     let e = c.take_lowest-taken.ensures in
     let cells = joining_cells _ h e.0 e.1 c.in-Some.is in
-    (omega (arith, h.long, c.requires.3.room2), cells.0, cells.1, omega arith)
+    (cells.0, cells.1, omega arith)
 
-pub loop-left-preserved-in-Some : goal.loop-left-preserved-in-Some
-loop-left-preserved-in-Some c =
-    let e = c.take_lowest-taken.ensures in
-    λ w cs m v1 p q. joining_pair p (c.loop-left.invariant w cs m v1 p q) e.0 e.1 c.in-Some.is c.join.ensures
+pub invariant_of-join : goal.invariant_of-join
+invariant_of-join c =
+    let h = c.loop-left.invariant _ _ _ _ c.requires.3 c.points_of-points.ensures.1 in
+    record { room = omega (arith, h.long, c.requires.3.room2) }
 
 pub loop-left-preserved : goal.loop-left-preserved
 loop-left-preserved c =
+    let e = c.take_lowest-taken.ensures in
+    λ w cs m v1 p q. joining_pair p (c.loop-left.invariant w cs m v1 p q) e.0 e.1 c.in-Some.is (search rules)
+
+pub loop-left-preserved-in_default : goal.loop-left-preserved-in_default
+loop-left-preserved-in_default c =
     let e = c.take_lowest-taken.ensures in
     λ w cs m v1 p q. joining_alone p (c.loop-left.invariant w cs m v1 p q) e.0 e.1 c.in_default.is
 

@@ -1,4 +1,6 @@
 -- `set_out` is a chain of four calls on the second buffer.
+use native.Mathlib.Omega.{arith}
+use borrow.Author.Rules.{rules}
 use Rattle.solving.proofs.Groups.{out_links, out_starts, out_there}
 use Rattle.solving.proofs.set_out.Goals as goal
 
@@ -16,4 +18,4 @@ pub returns : goal.returns
 returns c = λ w l p.
     let a = c.link.ensures l (out_links p) in
     out_there p a (c.find_starts.ensures w (out_starts p a)) c.blank.ensures
-    c.clear_table.auto.w2 c.clear_table.ensures
+    (omega arith) (search rules)

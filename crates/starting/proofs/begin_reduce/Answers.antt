@@ -22,5 +22,6 @@ returns c =
     let store = c.in_ok-store.store in
     let rows = call_rows (too_few_words (lent a.w1.now a.w2.now)) a.list.now in
     let same = c.in_ok-store.ensures.list in
-    reduce_starts a.list.now (store.entries.cells ∙ ap cells_of same) _ _ rows c.take_steps.result c.in_ok-store.ensures.refusal
+    reduce_starts a.list.now (store.entries.cells ∙ ap cells_of same) _ _ rows c.take_steps.result
+    c.in_ok-store.ensures.refusal
     (rw same at c.take_steps.ensures)

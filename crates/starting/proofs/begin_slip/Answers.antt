@@ -16,7 +16,8 @@ returns c =
     let store = c.in_ok-store.store in
     let same = c.in_ok-store.ensures.list in
     let few = too_few_words (lent a.w1.now a.w2.now) in
-    let seven = slip_checked a.slip.now same store.entries.cells c.from.ensures c.from-2.ensures c.in_ok-steps.ensures.refusal in
+    let seven = slip_checked a.slip.now same store.entries.cells c.from.ensures c.from-2.ensures
+    c.in_ok-steps.ensures.refusal in
     let slip = c.in_ok-steps.ensures.slip in
     slip_starts few a.list.now a.slip.now _ _ c.take_steps.result c.in_ok-store.ensures.refusal seven
     (rw (same, slip) at c.take_steps.ensures)

@@ -5,40 +5,40 @@ use native.Mathlib.Omega.{arith}
 use Rattle.undoing.proofs.undo_step.Goals as goal
 
 pub overflow_sub-word : goal.overflow_sub-word
-overflow_sub-word c = omega (arith, last_some c.requires)
+overflow_sub-word c = omega (arith, last_some c.requires c.args.table.now.room)
 
 pub overflow_sub-a : goal.overflow_sub-a
-overflow_sub-a c = last_some c.requires
+overflow_sub-a c = last_some c.requires c.args.table.now.room
 
 pub overflow_sub-a-2 : goal.overflow_sub-a-2
-overflow_sub-a-2 c = last_fits c.requires c.pairs_of-k.ensures
+overflow_sub-a-2 c = last_fits c.requires c.args.table.now.room c.pairs_of-k.ensures
 
 pub undo_leaf-requires : goal.undo_leaf-requires
-undo_leaf-requires c = leaf_there c.requires c.pairs_of-k.ensures c.in-Some.ensures c.in-Leaf.is c.stamp_by-stamp.ensures
+undo_leaf-requires c = leaf_there c.requires c.args.table.now.room c.pairs_of-k.ensures c.in-Some.ensures c.in-Leaf.is
 
 pub undo_ring-requires : goal.undo_ring-requires
 undo_ring-requires c =
-    ring_there c.requires c.pairs_of-k.ensures c.in-Some.ensures c.in-Ring.is c.stamp_by-stamp-in-Ring.ensures
+    ring_there c.requires c.args.table.now.room c.pairs_of-k.ensures c.in-Some.ensures c.in-Ring.is
 
 pub undo_chain-requires : goal.undo_chain-requires
 undo_chain-requires c =
-    chain_there c.requires c.pairs_of-k.ensures c.in-Some.ensures c.in-Chain.is c.stamp_by-stamp-in-Chain.ensures
+    chain_there c.requires c.args.table.now.room c.pairs_of-k.ensures c.in-Some.ensures c.in-Chain.is
     c.more_of-more.ensures
 
-pub returns-in-Leaf : goal.returns-in-Leaf
-returns-in-Leaf c h =
-    leaf_undone h c.pairs_of-k.ensures c.in-Some.ensures c.in-Leaf.is c.stamp_by-stamp.ensures c.undo_leaf.auto.w2
-    c.undo_leaf.ensures
+pub returns-in-Leaf-clause-back : goal.returns-in-Leaf-clause-back
+returns-in-Leaf-clause-back c h =
+    leaf_undone h c.args.table.now.room c.pairs_of-k.ensures c.in-Some.ensures c.in-Leaf.is c.undo_leaf.new.table.room
+    c.undo_leaf.ensures.back
 
-pub returns-in-Ring : goal.returns-in-Ring
-returns-in-Ring c h =
-    ring_undone h c.pairs_of-k.ensures c.in-Some.ensures c.in-Ring.is c.stamp_by-stamp-in-Ring.ensures
-    c.undo_ring.auto.w2 c.undo_ring.ensures
+pub returns-in-Ring-clause-back : goal.returns-in-Ring-clause-back
+returns-in-Ring-clause-back c h =
+    ring_undone h c.args.table.now.room c.pairs_of-k.ensures c.in-Some.ensures c.in-Ring.is
+    c.undo_ring.new.table.room c.undo_ring.ensures.back
 
-pub returns-in-Chain : goal.returns-in-Chain
-returns-in-Chain c h =
-    chain_undone h c.pairs_of-k.ensures c.in-Some.ensures c.in-Chain.is c.stamp_by-stamp-in-Chain.ensures
-    c.more_of-more.ensures c.undo_chain.auto.w2 c.undo_chain.ensures
+pub returns-in-Chain-clause-back : goal.returns-in-Chain-clause-back
+returns-in-Chain-clause-back c h =
+    chain_undone h c.args.table.now.room c.pairs_of-k.ensures c.in-Some.ensures c.in-Chain.is
+    c.more_of-more.ensures c.undo_chain.new.table.room c.undo_chain.ensures.back
 
-pub returns-in_default : goal.returns-in_default
-returns-in_default c h = none_there h c.pairs_of-k.ensures c.in_default.ensures
+pub returns-in_default-clause-back : goal.returns-in_default-clause-back
+returns-in_default-clause-back c h = none_there h c.args.table.now.room c.pairs_of-k.ensures c.in_default.ensures

@@ -12,5 +12,6 @@ loop-i-init g c = λ ws e h. refl
 pub loop-i-preserved : goal.loop-i-preserved
 loop-i-preserved g c = let l = c.loop-i in
     λ ws e h.
-    run_next c.args.size ws c.args.out.now refl (omega (arith, e)) (h l.i c.number.result (omega arith) c.number.ensures)
+    run_next c.args.size ws c.args.out.now refl (omega (arith, e)) (h l.i c.number.result (omega arith)
+    c.number.ensures)
     (l.invariant ws e h) c.put_number.ensures

@@ -16,13 +16,13 @@ listed : (c : After-list_pairs-r)
 listed c =
     let h = c.requires in
     let k = c.lift_back.auto in
-    c.list_pairs-r.ensures (from h) (up h) (lifted_there h k.w1 k.w2 (c.lift_back.ensures h.back))
+    c.list_pairs-r.ensures (from h) (up h) (lifted_there h k.w1 (c.lift_back.ensures.back h.back))
 
 pub list_pairs-r-requires : goal.list_pairs-r-requires
 list_pairs-r-requires c =
     let h = c.requires in
     let k = c.lift_back.auto in
-    (from h, up h, lifted_there h k.w1 k.w2 (c.lift_back.ensures h.back))
+    (from h, up h, lifted_there h k.w1 (c.lift_back.ensures.back h.back))
 
 pub slice_bounds-write_both-end : goal.slice_bounds-write_both-end
 slice_bounds-write_both-end c =
@@ -38,7 +38,7 @@ pub returns : goal.returns
 returns c h =
     let k = c.lift_back.auto in
     lifted_files h
-    (c.list_pairs-r.ensures (from h) (up h) (lifted_there h k.w1 k.w2 (c.lift_back.ensures h.back)))
+    (c.list_pairs-r.ensures (from h) (up h) (lifted_there h k.w1 (c.lift_back.ensures.back h.back)))
     c.write_both.ensures
 
 pub overflow_add-r : goal.overflow_add-r

@@ -22,7 +22,8 @@ returns-in_err-check_room-2 c =
     let p = err_from_is_err_and r.result r.ensures.1 in
     let e = c.in_err-check_room-2.ensures in
     rw (p.1, p.2, e.0)
-    (both_second a.w2.now a.at.carried c.requires.0 c.requires.1 c.requires.2 c.finish-r.ensures.1 a.slip.now a.short.now
+    (both_second a.w2.now a.at.carried c.requires.0 c.requires.1 c.requires.2 c.finish-r.ensures.1 a.slip.now
+    a.short.now
     (c.file_bytes-slip_size.ensures a.at.n) (c.file_bytes-short_size.ensures a.at.n) e.1)
 
 pub write_words-requires : goal.write_words-requires

@@ -20,7 +20,13 @@ slice_bounds-sort-end-2 c = let m = few (goal.at.slice_bounds-sort-end-2 c).Star
 
 pub sort-requires : goal.sort-requires
 sort-requires c = let m = few (goal.at.sort-requires c).Start in
-    omega (arith, length-take-le c.args.entries.now.m c.load.new.w1 (omega (arith, m, c.requires.room1, c.load.auto.w1)), m, c.requires.room2)
+    omega (
+      arith,
+      length-take-le c.args.entries.now.m c.load.new.w1 (omega
+          (arith, m, c.requires.room1, c.load.auto.w1)),
+      m,
+      c.requires.room2,
+    )
 
 pub returns : goal.returns
 returns c = let s = c.sort in
