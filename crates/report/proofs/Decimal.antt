@@ -1,19 +1,20 @@
 -- Laws of numbers in base ten. In order: how long they are (`decimal_few`), and in lines (`numbers_few`,
 -- `pair_line_few`); they are what is printed of a number (`decimal_is`), and it is put with a space before it
--- (`number_put`); read back they give the number (`decimal_value`), and no zero stands in front (`decimal_front`).
--- Assumes nothing.
+-- (`number_put`); the fewest digits of a number are at most 20 (`fewest_few`); read back they give the number
+-- (`decimal_value`), and no zero stands in front (`decimal_front`). Assumes nothing.
 use Prim.Native.Nat.{ℕ, zero, suc, ◌+◌, ◌*◌, ◌-◌, ◌/◌, ◌%◌, ◌^◌, ◌≤◌, ◌<◌}
 use mathlib.Core.Path.{◌≡◌, refl, sym, ◌∙◌}
 use mathlib.Core.Bool.{Bool, cond}
 use mathlib.Core.List.{List, [], ◌∷◌, ◌++◌, append_assoc}
 use native.Mathlib.Omega.{arith}
-use native.Mathlib.Nat.{pow-suc, pow-zero, mul-suc}
+use native.Mathlib.Nat.{pow-suc, pow-zero, pow-le-pow_right, mul-suc}
 use lib.ListN.{length, get_or, length-append}
 use lib.Dec.{ltb}
 use borrow.Author.Tests.{lt-ltb, le-ltb}
 use Rattle.std.specs.Fmt.{decimal as printed}
 use Rattle.std.proofs.lemmas.Fmt.{AppendsLastDigit, decimal_from_appends, length-decimal-le}
-use Rattle.matching.proofs.Tests.{Test, pass, fail, lt_test}
+use Rattle.io.specs.Digits.{hex_digit_ascii, IsDigitCount}
+use Rattle.matching.proofs.Tests.{Test, pass, fail, lt_test, le_test}
 use Rattle.report.specs.Printed.{digits, decimal, numbers, line}
 
 -- ---- how long
@@ -58,6 +59,19 @@ pub number_put : (t : List ℕ) {t1 t2 bytes : List ℕ} (v : ℕ) (rest : List 
 number_put t v rest h e b f =
     rw (f, e, b, decimal_is v h)
     (append_assoc (t ++ 32 ∷ []) (decimal v) (numbers rest) ∙ append_assoc t (32 ∷ []) (decimal v ++ numbers rest))
+
+-- ---- the fewest digits of a number, as library `io` has them
+
+glyph_is : (d : ℕ) → d < 10 → hex_digit_ascii d ≡ 48 + d
+glyph_is d l = rw (lt-ltb d 10 l)
+
+pub fewest_few : (v r : ℕ) → v < 18446744073709551616 → IsDigitCount 10 1 v r → r ≤ 20
+fewest_few v r h (_, _, s) = go (le_test r 20) where
+  go : {t : Bool} → Test (r ≤ 20) (20 < r) t → r ≤ 20
+  go (pass p) = p
+  go (fail n) =
+      let high : 10 ^ 20 ≤ 10 ^ (r - 1) = pow-le-pow_right {n = 10} (omega arith) {i = 20} {j = r - 1} (omega arith) in
+      absurd (omega (arith, high, s (omega arith)))
 
 -- ---- what the digits are
 

@@ -2,13 +2,13 @@
 -- name is the word of a slip (`name_word_is`); where the loop stands, the step that comes next is found
 -- (`next_scanned`, `next_first`), the loop ends (`run_out`, `run_refused`, `run_ends`), or steps were taken (`Went`)
 -- that leave room (`run_room`) and from which it goes on (`run_on`); a bound for rings that stays (`rings_stay`); a
--- step that was found is there to be taken (`found_there`, `step_there`), its name and what it carries fit
+-- step that was found (`is_some`) is there to be taken (`found_there`, `step_there`), its name and what it carries fit
 -- (`step_named`, `step_carried`), and the loop goes on from it (`after_step`). Assumes nothing.
 use mathlib.Core.Path.{◌≡◌, sym, ap, ap₂, subst, ◌∙◌}
-use mathlib.Core.Logic.{◌⊎◌, inl, inr}
+use mathlib.Core.Logic.{◌⊎◌, inl, inr, ◌≢◌}
 use mathlib.Core.Bool.{Bool, true}
 use mathlib.Core.List.{List, [], ◌∷◌, ◌++◌, map, map-append, append-nil}
-use Rattle.std.specs.Prelude.{Option as Perhaps, Some}
+use Rattle.std.specs.Prelude.{Option as Perhaps, Some, None}
 use mathlib.Core.Option.{Option, some, none}
 use Prim.Native.Nat.{ℕ, suc, ◌+◌, ◌*◌, ◌-◌, ◌≤◌, ◌<◌}
 use native.Mathlib.Omega.{arith}
@@ -220,6 +220,15 @@ rings_stay (inl z) q = λ c l. absurd (omega arith)
 rings_stay (inr (l, e)) q = rw e (q l)
 
 -- ---- the step that was found
+
+-- it is not none where it is one of the three
+pub is_some : {s : Perhaps declared.Step}
+    → ((v : ℕ) × (u : ℕ) × (s ≡ Some (found.Leaf v u))) ⊎ (((u : ℕ) × (z : ℕ) × (s ≡ Some (found.Ring u z)))
+    ⊎ ((u : ℕ) × (v : ℕ) × (z : ℕ) × (s ≡ Some (found.Chain u v z))))
+    → s ≢ None
+is_some (inl (v, u, e)) z = (let q = sym e ∙ z in let y : ◌≡◌ {A = ℕ} 0 1 = cc in omega arith)
+is_some (inr (inl (u, z', e))) z = (let q = sym e ∙ z in let y : ◌≡◌ {A = ℕ} 0 1 = cc in omega arith)
+is_some (inr (inr (u, v, z', e))) z = (let q = sym e ∙ z in let y : ◌≡◌ {A = ℕ} 0 1 = cc in omega arith)
 
 -- it is there to be taken
 abbrev pub found_there : {n m : ℕ} {w : Points} {rs : List (Rule × ℕ)} {more : ℕ} {at : Place} {g : WorkingGraph}
