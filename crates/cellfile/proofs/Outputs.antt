@@ -158,14 +158,14 @@ header_number kind n m = omega arith
 -- ---- the files that the writers write: a header, what stands behind it, and the entries
 
 -- nothing between the header and the entries
-pub plain_file : {l : Layout} → Plain l → (n : ℕ) (words : List ℕ)
-    → bytes 4 (packed header (l.kind ∷ n ∷ length words ∷ 0 ∷ [])) ++ word_bytes (size l.entry) words
+pub plain_file : {l : Layout} {kind k : ℕ} → Plain l kind k → (n : ℕ) (words : List ℕ)
+    → bytes 4 (packed header (kind ∷ n ∷ length words ∷ 0 ∷ [])) ++ word_bytes k words
     ≡ write_file l (file_of l n [] words)
 unfolding bytes
-plain_file {l} p n words = rw (words_records l.entry words p.whole, length-map, p.bare n)
+plain_file {l} p n words = rw (← p.kind_is, ← p.bytes_are, words_records l.entry words p.whole, length-map, p.bare n)
 
 -- the length of a file of words
-pub words_length : {l : Layout} → Plain l → (n r : ℕ) (ws : List ℕ) → r ≤ length ws
+pub words_length : {l : Layout} {kind k : ℕ} → Plain l kind k → (n r : ℕ) (ws : List ℕ) → r ≤ length ws
     → file_length l n r ≡ length (words_file l n r ws)
 words_length {l} p n r ws h =
     let all = take r ws in
@@ -187,17 +187,17 @@ records_file {A} l n r ws g xs e h =
     again (x ∷ xs) h = ap₂ (λ v vs. v ∷ vs) (fields_packed l.entry (g x) h.0) (again xs h.1)
 
 -- the layouts of store lists, slips, pairings and origin lists
-pub plain_store : Plain store_list
-plain_store = record { whole = refl; bare = λ n. refl }
+pub plain_store : Plain store_list 1 5
+plain_store = record { kind_is = refl; bytes_are = refl; whole = refl; bare = λ n. refl }
 
-pub plain_slip : Plain slip
-plain_slip = record { whole = refl; bare = λ n. refl }
+pub plain_slip : Plain slip 3 2
+plain_slip = record { kind_is = refl; bytes_are = refl; whole = refl; bare = λ n. refl }
 
-pub plain_pairing : Plain pairing
-plain_pairing = record { whole = refl; bare = λ n. refl }
+pub plain_pairing : Plain pairing 4 3
+plain_pairing = record { kind_is = refl; bytes_are = refl; whole = refl; bare = λ n. refl }
 
-pub plain_origins : Plain origin_list
-plain_origins = record { whole = refl; bare = λ n. refl }
+pub plain_origins : Plain origin_list 5 5
+plain_origins = record { kind_is = refl; bytes_are = refl; whole = refl; bare = λ n. refl }
 
 pub length_head : (v w : ℕ) → length (bytes 4 v ++ bytes 8 w) ≡ 12
 length_head v w = rw (length-append, length_bytes 4 v, length_bytes 8 w)

@@ -4,7 +4,7 @@ use Rattle.buffers.specs.Map.{unit, at_cells}
 use Rattle.matching.specs.Pairs.{Pair}
 use Rattle.matching.specs.Listed.{Entry}
 use Rattle.cellfile.specs.Bytes.{bytes}
-use Rattle.cellfile.specs.Fields.{fields, packed}
+use Rattle.cellfile.specs.Fields.{size, fields, packed}
 use Rattle.cellfile.specs.Fits.{WholeBytes}
 use Rattle.cellfile.specs.Files.{Layout, File, file_length, write_file, store_list, pairing, as_fields}
 use Rattle.cellfile.specs.Files.{name_fields, pair_fields, origin_fields, short_list, slip, origin_list}
@@ -24,8 +24,11 @@ file_of l n extra words = record { cells = n; extra = extra; entries = map (fiel
 abbrev pub words_file : Layout → ℕ → ℕ → List ℕ → List ℕ
 words_file l n r ws = write_file l (file_of l n [] (take r ws))
 
--- A layout with records of whole bytes and nothing between the header and the records.
-pub record Plain (l : Layout) : Type 0 where
+-- A layout of that kind with records of so many whole bytes and nothing between the header and the records; that is all
+-- that a writer knows of it.
+pub record Plain (l : Layout) (kind bytes : ℕ) : Type 0 where
+  pub kind_is : l.kind ≡ kind
+  pub bytes_are : size l.entry ≡ bytes
   pub whole : WholeBytes l.entry
   pub bare : (n : ℕ) → l.extra n ≡ []
 

@@ -6,6 +6,7 @@ ghost use Rattle.cellfile.specs.Reads.{HeaderRead, EntryAt, RecordAt, step_field
 ghost use Rattle.cellfile.specs.Reads.{pair_entry_fields, PairFits};
 
 use crate::format::{HEADER_BYTES, Kind};
+pub use crate::records::{Shape, shape_of};
 
 // The fields of a header.
 #[derive(Clone, Copy)]

@@ -4,8 +4,8 @@
 ghost use Rattle.std.specs.Prelude.{◌≡◌, ◌∷◌, [], map, ◌+◌, ◌*◌, ◌/◌, ◌%◌, ◌≤◌, ◌<◌, length, get_or, ℕ, List};
 ghost use Rattle.buffers.specs.Map.{unit};
 ghost use Rattle.cellfile.specs.Bytes.{bytes};
-ghost use Rattle.cellfile.specs.Fields.{packed};
-ghost use Rattle.cellfile.specs.Files.{header, short_list, write_file, file_length, onto, as_fields};
+ghost use Rattle.cellfile.specs.Fields.{size, packed};
+ghost use Rattle.cellfile.specs.Files.{Layout, header, short_list, write_file, file_length, onto, as_fields};
 ghost use Rattle.cellfile.specs.Kinds.{layout_of};
 ghost use Rattle.cellfile.specs.Words.{word_bytes, file_of, Plain, Writable, OfRows, RowsFit, points_room};
 
@@ -55,10 +55,13 @@ fn put_header(kind: Kind, n: usize, m: usize, out: &mut [u8])
     );
 }
 
-// A file of that kind of n cells, whose records are the last bytes of the words.
+// A file of that kind of n cells, whose records are the last bytes of the words: that of every layout with that kind and
+// size of a record, and nothing between header and records.
 pub fn write_words(kind: Kind, n: usize, words: &[u64], out: &mut [u8])
-    requires { Plain (layout_of kind) × Writable (layout_of kind) n words.now out.old }
-    ensures { out.new ≡ onto (write_file (layout_of kind) (file_of (layout_of kind) n [] words.now)) out.old }
+    requires { (l : Layout) × Plain l (layout_of kind).kind (size (layout_of kind).entry)
+        × Writable l n words.now out.old }
+    ensures { (l : Layout) → Plain l (layout_of kind).kind (size (layout_of kind).entry)
+        → out.new ≡ onto (write_file l (file_of l n [] words.now)) out.old }
 {
     put_header(kind, n, words.len(), out);
     put_numbers(

@@ -1,5 +1,6 @@
 -- What a function that calls replay, lift and weigh one after the other answers and writes, and what it is told: demand
--- 3 of the very bytes that the calls wrote and of the points that weigh answered. Law: proofs/Telling, `all_answered`.
+-- 3 of the very bytes that the calls wrote and of the points that weigh answered. Laws: proofs/Telling, `keeps_all` and
+-- `weighs_next`.
 use Rattle.std.specs.Prelude.{◌≡◌, List, [], ◌∷◌, ◌++◌, ℕ, ◌+◌, take, Result, IfOk}
 use Rattle.matching.specs.Listed.{points}
 use Rattle.matching.specs.Steps.{Step}

@@ -122,6 +122,7 @@ module _ {n u c₀ : ℕ} {room : Room} {g₀ : WorkingGraph} (h : LeafRunThere 
     run_taken q = record {
       hub = u;
       cells = s.cells;
+      slots = d.slots ∙ s.slots;
       words =
           words_kept g g' s.words d.aside (omega (arith, s.count, s.few, room.on_trail))
           (omega (arith, s.count, s.few, room.in_names));
@@ -139,6 +140,7 @@ pub run_none : {n low : ℕ} {room : Room} {g : WorkingGraph} → Quiet low (gra
 run_none {room = room} {g = g} q = record {
   hub = 0;
   cells = [];
+  slots = refl;
   words = words_start room.trail room.names 0 g.w2.now;
   first = refl;
   count = refl;

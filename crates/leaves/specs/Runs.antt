@@ -87,6 +87,7 @@ pub record Owes (n u : ℕ) (room : Room) (g g' : WorkingGraph) (r : LeafRun) : 
 pub record Taken (n : ℕ) (room : Room) (g g' : WorkingGraph) (r : LeafRun) : Type 0 where
   pub hub : ℕ
   pub cells : List ℕ
+  pub slots : g'.slots ≡ g.slots
   pub words : Words room.trail room.names hub cells g.w2.now g'.w2.now
   pub first : reduce (length cells) n (graph_in g) ≡ leaves_at hub cells
   pub count : r.steps ≡ length cells

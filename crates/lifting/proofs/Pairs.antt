@@ -25,7 +25,7 @@ use Rattle.checks.proofs.Answering.{no_room, all_room}
 -- ---- one file
 
 -- the length of a file that words make
-pub words_long : {l : Layout} → Plain l → (n : ℕ) (ws : List ℕ) {size : ℕ} → size ≡ file_length l n (length ws)
+pub words_long : {l : Layout} {kind k : ℕ} → Plain l kind k → (n : ℕ) (ws : List ℕ) {size : ℕ} → size ≡ file_length l n (length ws)
     → size ≡ length (write_file l (file_of l n [] ws))
 words_long {l} p n ws e =
     e ∙ words_length p n (length ws) ws (omega arith)

@@ -64,7 +64,10 @@ fn enter(
     ensures { Enters (graph_of e w1.old) pairs.now.file.now w2.old w2.new result × (w1.new ≡ w1.old) }
 {
     let mut graph = WorkingGraph { w1, w2, slots: e };
-    partners::enter(pairs, &mut graph)
+    if partners::enter(pairs, &mut graph) {
+        return Err(Refusal::NoPairing);
+    }
+    Ok(())
 }
 
 // Refusals 9, 10 and 12, and the pairing of what the steps left brought back over the trail.

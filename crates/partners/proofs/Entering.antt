@@ -2,15 +2,13 @@
 -- nothing.
 use mathlib.Core.Path.{◌≡◌, sym, ◌∙◌}
 use mathlib.Core.Bool.{Bool, true, false, not, and-true, and-false}
-use mathlib.Core.List.{List, [], ◌∷◌}
+use mathlib.Core.List.{List}
 use Prim.Native.Nat.{ℕ}
 use borrow.Author.Tests.{not-true, not-false}
-use Rattle.std.specs.Prelude.{Result}
 use Rattle.matching.specs.Pairs.{Pair, Points}
 use Rattle.matching.specs.Lists.{distinct}
 use Rattle.matching.specs.Pairing.{is_pairing, cells}
-use Rattle.checks.specs.Refusals.{first, no_pairing}
-use Rattle.checks.specs.declared.Refusal.{Refusal}
+use Rattle.checks.specs.Refusals.{no_pairing}
 use Rattle.partners.specs.Table.{TableOnly}
 use Rattle.partners.specs.Entering.{all_there, Filled}
 
@@ -20,11 +18,9 @@ module _ (w : Points) (ps : List Pair) {t : Bool} (there : t ≡ not (all_there 
   unfolding is_pairing
   missing_is q = rw (not-true (all_there w ps) (sym there ∙ q), and-false)
 
-  pub filled_is : t ≡ false → {k : ℕ} → k ≡ first ((10, not (distinct (cells ps))) ∷ [])
-      → k ≡ first ((10, no_pairing w ps) ∷ [])
+  pub filled_is : t ≡ false → {b : Bool} → b ≡ not (distinct (cells ps)) → b ≡ no_pairing w ps
   unfolding is_pairing
   filled_is q e = rw (not-false (all_there w ps) (sym there ∙ q), and-true) e
 
-pub filled_on : {m : List Pair} {w2 v u : List ℕ} {r : Result Unit Refusal} → TableOnly w2 v → Filled m v u r
-    → Filled m w2 u r
-filled_on kept f = record { refusal = f.refusal; mates = f.mates; aside = λ j l. f.aside j l ∙ kept j l }
+pub filled_on : {m : List Pair} {w2 v u : List ℕ} {b : Bool} → TableOnly w2 v → Filled m v u b → Filled m w2 u b
+filled_on kept f = record { answer = f.answer; mates = f.mates; aside = λ j l. f.aside j l ∙ kept j l }

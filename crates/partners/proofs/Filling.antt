@@ -3,7 +3,7 @@
 -- Assumes nothing.
 use mathlib.Core.Path.{◌≡◌, refl, sym, ap, subst, ◌∙◌}
 use mathlib.Core.Logic.{inl, inr, ◌≢◌}
-use mathlib.Core.Bool.{Bool, true, false}
+use mathlib.Core.Bool.{Bool, true, false, true≢false}
 use mathlib.Core.List.{List, [], ◌∷◌}
 use Prim.Native.Nat.{ℕ, suc, ◌+◌, ◌≤◌, ◌<◌}
 use native.Mathlib.Omega.{arith}
@@ -13,7 +13,6 @@ use borrow.Rule.Slice.PartMut.{put_mid}
 use Rattle.buffers.proofs.Filled.{zero_in, same_out}
 use lib.Seq.{get_or-set_same, get_or-set_other}
 use borrow.Author.Tests.{lt-ltb, ne_eqb}
-use Rattle.std.specs.Prelude.{Ok, Err}
 use Rattle.buffers.specs.Map.{at_table}
 use Rattle.matching.specs.Lists.{All, distinct}
 use Rattle.matching.specs.Pairs.{Pair, ι, sum, hit}
@@ -27,7 +26,6 @@ use Rattle.cellfile.specs.Files.{pairs_of, count_of}
 use Rattle.cellfile.specs.Reads.{PairRead}
 use Rattle.cellfile.specs.declared.decode.PairEntry.{PairEntry}
 use Rattle.cellfile.proofs.Walk.{pairs_count, pair_next, cells_fit}
-use Rattle.checks.specs.declared.Refusal.TheVariants.{NoPairing}
 use Rattle.partners.specs.Table.{TableOnly}
 use Rattle.partners.specs.Entering.{Empty, Filled}
 use Rattle.partners.proofs.Tags.{tags_short}
@@ -98,10 +96,10 @@ twice_cell all c h = fails (distinct_test (cells all)) (λ once. omega (arith, o
 
 module _ {all rest : List Pair} {w v : List ℕ} {a b : ℕ} (p : Filling all ((a, b) ∷ rest) w v)
     (room : 8192 ≤ length v) (la : a < 1024) (lb : b < 1024) where
-  pub fill_twice_a : mate_at v a ≢ 0 → Filled all w v (Err NoPairing)
+  pub fill_twice_a : mate_at v a ≢ 0 → Filled all w v true
   fill_twice_a n =
       let d = twice_cell all a (omega (arith, p.hits a la, some_not (mate_at v a) n, hit_some a a b (inl refl))) in
-      record { refusal = rw d; mates = tt; aside = p.aside }
+      record { answer = rw d; mates = λ e. absurd (true≢false e); aside = p.aside }
 
   abbrev half : List ℕ
   half = set v (at_table + a) (b + 1)
@@ -109,11 +107,10 @@ module _ {all rest : List Pair} {w v : List ℕ} {a b : ℕ} (p : Filling all ((
   half_aside : TableOnly w half
   half_aside = trail_on w v half p.aside (trail_set v a (b + 1))
 
-  pub fill_twice_b : mate_at (set v (at_table + a) (b + 1)) b ≢ 0
-      → Filled all w (set v (at_table + a) (b + 1)) (Err NoPairing)
+  pub fill_twice_b : mate_at (set v (at_table + a) (b + 1)) b ≢ 0 → Filled all w (set v (at_table + a) (b + 1)) true
   fill_twice_b n =
       let d = twice_cell all b (go (eq_test b a)) in
-      record { refusal = rw d; mates = tt; aside = half_aside }
+      record { answer = rw d; mates = λ e. absurd (true≢false e); aside = half_aside }
     where
       go : {t : Bool} → Test (b ≡ a) (b ≢ a) t → 2 ≤ sum (hit b) all
       go (pass e) = omega (arith, p.hits b lb, hit_both b a b (sym e) refl)
@@ -171,10 +168,10 @@ count_none c [] p l = refl
 count_none c (x ∷ xs) p l = rw (ne_eqb x c (λ e. omega (arith, p.0))) (omega (arith, count_none c xs p.1 l))
 
 fill_end : {all : List Pair} {w v : List ℕ} → Filling all [] w v → All (λ (x : ℕ). x < 1024) (cells all)
-    → Filled all w v (Ok tt)
+    → Filled all w v false
 fill_end {all} {w} {v} p low = record {
-  refusal = rw (passes (distinct_test (cells all)) once);
-  mates = λ c l. omega (arith, p.mates c l, tags_short c all);
+  answer = rw (passes (distinct_test (cells all)) once);
+  mates = λ e c l. omega (arith, p.mates c l, tags_short c all);
   aside = p.aside;
 }
   where
@@ -196,7 +193,7 @@ module _ (s w : List ℕ) where
         → Filling (pairs_of s) ((e.a, e.b) ∷ drop (i + 1) (pairs_of s)) w v
     fill_here l {e} r = subst (λ rest. Before rest v) (pair_next s i e l r) p
 
-    pub fill_last : count_of s ≤ i → Filled (pairs_of s) w v (Ok tt)
+    pub fill_last : count_of s ≤ i → Filled (pairs_of s) w v false
     fill_last l =
         fill_end (subst (λ rest. Before rest v)
         (drop_of_length-le (pairs_of s) {i = i} (omega (arith, pairs_count s))) p)

@@ -1,5 +1,5 @@
 -- A pairing into the table of partners and out of it. Inner contracts cite this.
-use Rattle.std.specs.Prelude.{◌≡◌, ◌≢◌, OnOk, Result, List, [], ◌∷◌, map, ℕ, suc, ◌+◌, ◌*◌, ◌-◌, ◌/◌, ◌%◌, ◌≤◌, ◌<◌}
+use Rattle.std.specs.Prelude.{◌≡◌, ◌≢◌, Bool, false, List, map, ℕ, suc, ◌+◌, ◌*◌, ◌-◌, ◌/◌, ◌%◌, ◌≤◌, ◌<◌}
 use Rattle.std.specs.Prelude.{length, get_or, set, take, drop}
 use Rattle.buffers.specs.Map.{trail_room, at_table, at_origins, partner_field}
 use Rattle.matching.specs.Pairs.{Pair, sum, Each}
@@ -7,9 +7,7 @@ use Rattle.matching.specs.Pairing.{Once, seen}
 use Rattle.matching.specs.Origin.{Origin, Origins, all_short, number_in}
 use Rattle.matching.specs.Listed.{filed}
 use Rattle.cellfile.specs.Files.{pairs_of}
-use Rattle.checks.specs.Refusals.{first}
-use Rattle.checks.specs.Calls.{refusal_in, hold_row}
-use Rattle.checks.specs.declared.Refusal.{Refusal}
+use Rattle.checks.specs.Refusals.{no_pairing}
 use Rattle.cellfile.specs.Words.{pair_word, word_of_origin}
 use Rattle.origins.specs.Stamps.{stamp_for, origin_in}
 use Rattle.slots.specs.Working.{graph_in, SameBuffers}
@@ -60,10 +58,10 @@ pub record InTable (w2 : List ℕ) (from : Origins) (m : List Pair) : Type 0 whe
 abbrev pub SameBuffer : Table → Table → Type 0
 SameBuffer t t' = t'.words.ghost_name ≡ t.words.ghost_name
 
--- Refusal 10; where it does not hold the table has the partners. The graph stays.
-pub record Entered (file : List ℕ) (g g' : WorkingGraph) (r : Result Unit Refusal) : Type 0 where
-  pub refusal : refusal_in r ≡ first (hold_row (graph_in g) file ∷ [])
-  pub mates : OnOk r (Mates g'.w2.now all_short (pairs_of file))
+-- Whether refusal 10 holds; where it does not the table has the partners. The graph stays.
+pub record Entered (file : List ℕ) (g g' : WorkingGraph) (refused : Bool) : Type 0 where
+  pub answer : refused ≡ no_pairing (graph_in g) (pairs_of file)
+  pub mates : refused ≡ false → Mates g'.w2.now all_short (pairs_of file)
   pub aside : TableOnly g.w2.now g'.w2.now
   pub slots : g'.slots ≡ g.slots
   pub first_kept : g'.w1.now ≡ g.w1.now

@@ -18,7 +18,6 @@ use crate::table::Table;
 use buffers::map::{ORIGIN_WORDS, PAIR_A, PAIR_B, PARTNER_FIELD, TABLE};
 use cellfile::decode::PairEntry;
 use cellfile::records::Records;
-use checks::Refusal;
 use origins::{Origin, PairOrigin};
 use slots::graph::WorkingGraph;
 
@@ -68,8 +67,8 @@ fn is_missing(pairs: &Records<'_, PairEntry>, graph: &WorkingGraph) -> bool
     })
 }
 
-// Refusal 10 where a cell of the pairing stands twice; else the table in the buffer has its partners.
-pub fn enter_pairs(pairs: &Records<'_, PairEntry>, w2: &mut [u64]) -> Result<(), Refusal>
+// Whether a cell of the pairing stands twice; else the table in the buffer has its partners.
+pub fn enter_pairs(pairs: &Records<'_, PairEntry>, w2: &mut [u64]) -> bool
     requires { 8192 ≤ length w2.old }
     ensures { Filled (pairs_of pairs.now.file.now) w2.old w2.new result }
 {
@@ -77,12 +76,12 @@ pub fn enter_pairs(pairs: &Records<'_, PairEntry>, w2: &mut [u64]) -> Result<(),
     table.enter(pairs)
 }
 
-// Refusal 10 of a pairing that has passed 9, for the graph; its partners go into the table.
-pub fn enter(pairs: &Records<'_, PairEntry>, graph: &mut WorkingGraph) -> Result<(), Refusal>
+// Whether refusal 10 holds of a pairing that has passed 9, for the graph; else its partners are in the table.
+pub fn enter(pairs: &Records<'_, PairEntry>, graph: &mut WorkingGraph) -> bool
     ensures { Entered pairs.now.file.now graph.old graph.new result }
 {
     if is_missing(pairs, graph) {
-        return Err(Refusal::NoPairing);
+        return true;
     }
     enter_pairs(pairs, graph.w2)
 }

@@ -11,7 +11,6 @@ use crate::table::Table;
 use buffers::map::{PARTNER_FIELD, TABLE};
 use cellfile::decode::PairEntry;
 use cellfile::records::Records;
-use checks::Refusal;
 use origins::Origin;
 
 // The words of the table.
@@ -72,8 +71,8 @@ impl Table<'_> {
         self.words[TABLE..TABLE + CELLS].fill(0);
     }
 
-    // Refusal 10 where a cell stands twice. The partners of the cells met go into the table, which is empty before.
-    fn fill(&mut self, pairs: &Records<'_, PairEntry>) -> Result<(), Refusal>
+    // Whether a cell stands twice. The partners of the cells met go into the table, which is empty before.
+    fn fill(&mut self, pairs: &Records<'_, PairEntry>) -> bool
         requires { Empty self.old.words.now }
         ensures { Filled (pairs_of pairs.now.file.now) self.old.words.now self.new.words.now result
             × SameBuffer self.old self.new }
@@ -81,19 +80,19 @@ impl Table<'_> {
         for i in 0..pairs.count {
             let p = pairs.get(i);
             if self.words[TABLE + p.a] != 0 {
-                return Err(Refusal::NoPairing);
+                return true;
             }
             self.words[TABLE + p.a] = p.b as u64 + 1;
             if self.words[TABLE + p.b] != 0 {
-                return Err(Refusal::NoPairing);
+                return true;
             }
             self.words[TABLE + p.b] = p.a as u64 + 1;
         }
-        Ok(())
+        false
     }
 
-    // Refusal 10 where a cell of the pairing stands twice; else the table has its partners.
-    pub fn enter(&mut self, pairs: &Records<'_, PairEntry>) -> Result<(), Refusal>
+    // Whether a cell of the pairing stands twice; else the table has its partners.
+    pub fn enter(&mut self, pairs: &Records<'_, PairEntry>) -> bool
         ensures { Filled (pairs_of pairs.now.file.now) self.old.words.now self.new.words.now result
             × SameBuffer self.old self.new }
     {

@@ -15,8 +15,7 @@ use Rattle.matching.specs.Steps.{Step}
 use Rattle.cellfile.specs.Files.{cells_of, onto}
 use Rattle.checks.specs.Refusals.{Row, first, too_few_words, lists, list_rows, crowded, short_output}
 use Rattle.cellfile.specs.Answers.{answer}
-use Rattle.checks.specs.Calls.{number, room_row}
-use Rattle.checks.specs.declared.Refusal.{Refusal}
+use Rattle.checks.specs.Calls.{room_row}
 use Rattle.checks.proofs.Layers.{answer_refused, answer_accepted, first_refused, first_passed}
 use Rattle.checks.proofs.Rows.{list_none}
 use Rattle.reduction.specs.Calls.{slip_file, short_file, reducing}

@@ -4,7 +4,8 @@
 mod pairs;
 mod text;
 
-ghost use Rattle.std.specs.Prelude.{◌≡◌, [], ◌∷◌, ◌≤◌, length, take, MatchResult};
+ghost use Rattle.std.specs.Prelude.{◌≡◌, [], ◌∷◌, take, MatchResult};
+ghost use Rattle.io.specs.Counts.{IsPrefixLen};
 ghost use Rattle.checks.specs.Calls.{number};
 ghost use Rattle.lifting.specs.Calls.{pairing_file};
 ghost use Rattle.report.specs.Printed.{line as line_of, made, printed};
@@ -67,7 +68,7 @@ fn print_paired(list: &[u8], text: &mut Text) -> Result<(), Refusal>
 
 // Puts what the program prints of the list at the start of the text: its length.
 pub fn print(list: &[u8], text: &mut [u8; 36864]) -> usize
-    ensures fits { result ≤ length text.new }
+    ensures fits { IsPrefixLen result text.new }
     ensures text { take result text.new ≡ printed list.now }
 {
     let mut lines = Text::new();

@@ -1,22 +1,17 @@
--- The partners of the lowest place of a set, tried one by one. In order: one more try; the partner that a word tells,
--- by which the greater of two words is the one to keep (`told_before`); the partner had so far
+-- The partners of the lowest place of a set, tried one by one. In order: one more try; the partner had so far
 -- (`Tried`), from before the first try to after the last, where its word is the set's (`tried_all`).
-use mathlib.Core.Path.{◌≡◌, refl, sym, ap, ◌∙◌}
+use mathlib.Core.Path.{◌≡◌, sym, ap, ◌∙◌}
 use mathlib.Core.Logic.{◌≢◌}
-use mathlib.Core.Bool.{Bool, cond}
 use mathlib.Core.List.{List, ◌∷◌}
-use Rattle.std.specs.Prelude.{Option, None, Some}
-use Prim.Native.Nat.{ℕ, ◌+◌, ◌*◌, ◌-◌, ◌/◌, ◌%◌, ◌^◌, ◌≤◌, ◌<◌, max}
+use Rattle.std.specs.Prelude.{None, Some}
+use Prim.Native.Nat.{ℕ, ◌+◌, ◌*◌, ◌-◌, ◌/◌, ◌%◌, ◌^◌, ◌≤◌, ◌<◌}
 use native.Mathlib.Omega.{arith}
 use lib.ListN.{get_or}
 use borrow.Author.Tests.{lt-ltb, le-ltb}
-use Rattle.std.specs.Option.{IfSome}
-use Rattle.std.proofs.lemmas.Option.{IfSome_then}
-use Rattle.matching.proofs.Tests.{Test, pass, fail, lt_test}
 use Rattle.matching.specs.Pairs.{Pair, Points, sum}
 use Rattle.matching.specs.Solve.{less, tries, solve}
 use Rattle.buffers.specs.Map.{unit}
-use Rattle.sets.specs.Sets.{in_set, between, heaviest, points, Lowest, partnered, Partner, told, partner_told, Best}
+use Rattle.sets.specs.Sets.{in_set, between, heaviest, points, Lowest, partnered, Partner, partner_told, Best}
 use Rattle.sets.proofs.Places.{places_less, from, others_from, from_in, from_out, from_end, places_few}
 use Rattle.sets.proofs.Places.{without_first, lowest_one}
 use Rattle.sets.proofs.Heaviest.{solve_more, word_light}
@@ -34,30 +29,6 @@ module _ (f : ℕ → List Pair) (w : Points) (c p : ℕ) (ps : List ℕ) (had :
     try_worse : w c p + sum w k ≤ sum w had → tries f w c (p ∷ ps) had ≡ tries f w c ps had
     try_worse m = rw (e, lt-ltb 0 (w c p) l, le-ltb (sum w had) (w c p + sum w k) m)
 
--- ---- the partner that a word tells
-
-told_some : (x y : ℕ) → told x ≡ Some y → x + y ≡ 14
-told_some x y = go (lt_test 14 x)
-  where
-    go : {t : Bool} → Test (14 < x) (x ≤ 14) t → cond t None (Some (14 - x)) ≡ Some y → x + y ≡ 14
-    go (pass l) e = cc
-    go (fail l) e = let q : 14 - x ≡ y = cc in omega arith
-
-told_none : (x : ℕ) → told x ≡ None → 14 < x
-told_none x = go (lt_test 14 x)
-  where
-    go : {t : Bool} → Test (14 < x) (x ≤ 14) t → cond t None (Some (14 - x)) ≡ None → 14 < x
-    go (pass l) e = l
-    go (fail l) e = cc
-
--- of words of as many points, the one of the earlier partner is the greater
-told_before : (v n p : ℕ) → IfSome (partner_told v) (λ x. x < p) → partner_told n ≡ Some p → n / 16 ≤ v / 16 → n ≤ v
-told_before v n p b o m = go (partner_told v) refl b
-  where
-    go : (r : Option ℕ) → partner_told v ≡ r → IfSome r (λ x. x < p) → n ≤ v
-    go None e h = omega (arith, told_none (v % 16) e, told_some (n % 16) p o)
-    go (Some x) e h = omega (arith, told_some (v % 16) x e, told_some (n % 16) p o)
-
 -- ---- the partner had so far
 
 -- What comes of the places from p on as partners of c, where a pairing is had.
@@ -65,7 +36,7 @@ abbrev pub onward : List ℕ → ℕ → ℕ → List ℕ → List Pair → List
 onward ws c rest = tries (λ q. solve 12 (between ws) (less q (in_set rest))) (between ws) c
 
 -- Of the lowest place c of the set s, the places from p on of the rest are still to be tried as partners: the word v
--- tells the partner had, which comes before them, and the points with it.
+-- tells the partner had, and the points with it.
 pub record Tried (ws : List ℕ) (s c rest p v : ℕ) : Type 0 where
   pub low : Lowest c s
   pub others : rest ≡ s - 2 ^ c
@@ -73,7 +44,6 @@ pub record Tried (ws : List ℕ) (s c rest p v : ℕ) : Type 0 where
   pub marked : 0 < v % 16
   pub sums : v / 16 ≡ sum (between ws) (partnered ws c rest (partner_told v))
   pub within : Partner rest (partner_told v)
-  pub before : IfSome (partner_told v) (λ x. x < p)
 
 pub tried_first : {ws : List ℕ} {s c b u v : ℕ} → b ≡ 2 ^ c → Lowest c s → Best ws (s - b) u → 0 < v % 16
     → v / 16 ≡ u / 16 → partner_told v ≡ None → Tried ws s c (s - b) (c + 1) v
@@ -89,7 +59,6 @@ tried_first {ws} {s} {c} {b} {u} {v} e l h m y o =
       marked = m;
       sums = y ∙ h.sums ∙ ap (sum (between ws)) (sym with_none);
       within = rw o tt;
-      before = rw o tt;
     }
 
 module _ {ws : List ℕ} {s c rest p v : ℕ} (t : Tried ws s c rest p v) where
@@ -115,7 +84,6 @@ module _ {ws : List ℕ} {s c rest p v : ℕ} (t : Tried ws s c rest p v) where
       marked = t.marked;
       sums = t.sums;
       within = t.within;
-      before = IfSome_then (partner_told v) t.before (λ x h. omega arith);
     }
 
     pub tried_fits : {x u : ℕ} → ((i : ℕ) → i < 144 → get_or ws i 0 < unit) → Best ws x u
@@ -138,37 +106,30 @@ module _ {ws : List ℕ} {s c rest p v : ℕ} (t : Tried ws s c rest p v) where
       pub tried_light : between ws c p ≤ 0 → Tried ws s c rest (p + 1) v
       tried_light z = next (here ∙ try_none _ (between ws) c p after had z)
 
-      -- the word n tells the partner p, and the points with it
-      module _ {d u : ℕ} (n : ℕ) (q : d ≡ 2 ^ p) (e : Best ws (rest - d) u) (z : 0 < between ws c p) (k : 0 < n % 16)
-          (y : n / 16 ≡ between ws c p + u / 16) (o : partner_told n ≡ Some p) where
-        sums_here : n / 16 ≡ between ws c p + points ws (rest - 2 ^ p)
-        sums_here = y ∙ ap (λ (x : ℕ). between ws c p + x) (e.sums ∙ ap (λ x. points ws (rest - x)) q)
+      module _ {d u : ℕ} (q : d ≡ 2 ^ p) (e : Best ws (rest - d) u) (z : 0 < between ws c p) where
+        -- the points with the partner p
+        abbrev with_p : ℕ
+        with_p = between ws c p + u / 16
 
-        tried_worse : n / 16 ≤ v / 16 → Tried ws s c rest (p + 1) v
+        sums_here : with_p ≡ between ws c p + points ws (rest - 2 ^ p)
+        sums_here = ap (λ (x : ℕ). between ws c p + x) (e.sums ∙ ap (λ x. points ws (rest - x)) q)
+
+        pub tried_worse : with_p ≤ v / 16 → Tried ws s c rest (p + 1) v
         tried_worse m =
             next (here ∙ try_worse _ (between ws) c p after had less_here z (omega (arith, sums_here, t.sums)))
 
-        tried_better : v / 16 < n / 16 → Tried ws s c rest (p + 1) n
-        tried_better m =
-            let with_p = ap (partnered ws c rest) o in
+        -- the word n tells the partner p, and the points with it
+        pub tried_better : v / 16 < with_p → {n : ℕ} → 0 < n % 16 → n / 16 ≡ with_p → partner_told n ≡ Some p
+            → Tried ws s c rest (p + 1) n
+        tried_better m {n} k r o =
+            let told_p = ap (partnered ws c rest) o in
             record {
               low = t.low;
               others = t.others;
               whole = here ∙ try_better _ (between ws) c p after had less_here z
                   (omega (arith, sums_here, t.sums))
-                  ∙ ap (onward ws c rest after) (sym with_p);
+                  ∙ ap (onward ws c rest after) (sym told_p);
               marked = k;
-              sums = sums_here ∙ ap (sum (between ws)) (sym with_p);
+              sums = r ∙ sums_here ∙ ap (sum (between ws)) (sym told_p);
               within = rw o (l, b);
-              before = rw o (omega arith);
             }
-
-        -- the word of more points is the greater; of as many, the one had
-        pub tried_next : Tried ws s c rest (p + 1) (max v n)
-        tried_next = go (lt_test (v / 16) (n / 16))
-          where
-            go : {f : Bool} → Test (v / 16 < n / 16) (n / 16 ≤ v / 16) f → Tried ws s c rest (p + 1) (max v n)
-            go (pass m) = let i : max v n ≡ n = omega arith in rw i (tried_better m)
-            go (fail m) =
-                let i : max v n ≡ v = omega (arith, told_before v n p t.before o m) in
-                rw i (tried_worse m)

@@ -42,9 +42,9 @@ partnered ws c rest (Some p) = (c, p) ∷ heaviest ws (rest - 2 ^ p)
 abbrev pub Partner : ℕ → Option ℕ → Type 0
 Partner rest r = IfSome r (λ p. (p < 12) × (rest / 2 ^ p % 2 ≡ 1))
 
--- The partner that a word tells in its four low bits: 15 where there is none, else 14 less the partner's place.
+-- The partner that a word tells in its four low bits: 1 where there is none, else the partner's place and 2.
 abbrev pub told : ℕ → Option ℕ
-told x = cond (ltb 14 x) None (Some (14 - x))
+told x = cond (ltb 1 x) (Some (x - 2)) None
 
 abbrev pub partner_told : ℕ → Option ℕ
 partner_told v = told (v % 16)

@@ -19,9 +19,8 @@ pub struct Taken {
 }
 
 // What the table has of a set, or 0 where nothing is known of it: the points of its heaviest pairing, and below them
-// the partner of its lowest place, as 14 less the partner's place, or 15 where it has none. So the greater of two words
-// has more points, or as many and no partner or the earlier one.
-#[derive(Clone, Copy, PartialEq, Eq, PartialOrd, Ord)]
+// the partner of its lowest place, as the partner's place and 2, or 1 where it has none.
+#[derive(Clone, Copy)]
 struct Word(u64);
 
 impl Word {
@@ -35,8 +34,8 @@ impl Word {
         ensures partner { partner_told result.0 ≡ partner }
     {
         let told = match partner {
-            None => 15,
-            Some(p) => 14 - p as u64,
+            None => 1,
+            Some(p) => p as u64 + 2,
         };
         Word(points * Self::POINT + told)
     }
@@ -50,7 +49,7 @@ impl Word {
     fn partner(self) -> Option<usize>
         ensures { result ≡ partner_told self.0 }
     {
-        14u64.checked_sub(self.0 % Self::POINT).map(|p| p as usize)
+        (self.0 % Self::POINT).checked_sub(2).map(|p| p as usize)
     }
 }
 
@@ -120,7 +119,11 @@ fn heavy(ws: &[u64], w1: &mut [u64], k: usize, s: usize) -> Word
             let x = ws[MOST * c + q];
             if 0 < x {
                 let y = x + word_of(ws, w1, k, rest - single(q)).points();
-                best = best.max(Word::of(y, Some(q)));
+                // Made whether it is kept or not, so that the compiled code has no jump on the points.
+                let word = Word::of(y, Some(q));
+                if best.points() < y {
+                    best = word;
+                }
             }
         }
     }

@@ -1,13 +1,13 @@
 -- Laws of weighing: refusal 10 and the points of a pairing (`pairs_twice`, `pairs_found`); what each check refuses; the
 -- whole call answers the points just where nothing is refused (`weigh_passes`, `weigh_sound`).
 use Prim.Native.Nat.{ℕ, suc}
-use mathlib.Core.Path.{◌≡◌, refl, ap, ◌∙◌}
-use mathlib.Core.Bool.{Bool, true, false, not, cond, ◌&&◌}
+use mathlib.Core.Path.{◌≡◌, refl, sym, ap, ◌∙◌}
+use mathlib.Core.Bool.{Bool, true, false, not, cond}
 use mathlib.Core.List.{List, [], ◌∷◌, ◌++◌}
 use mathlib.Core.Option.{some, none}
 use native.Mathlib.Omega.{arith}
 use native.Mathlib.Nat.{zero-add}
-use borrow.Author.Tests.{not-false}
+use borrow.Author.Tests.{not-true, not-false}
 use lib.ListN.{get_or}
 use Rattle.matching.specs.Lists.{distinct}
 use Rattle.matching.specs.Pairs.{Pair}
@@ -17,9 +17,9 @@ use Rattle.matching.proofs.Pairing.{is_pairing_is}
 use Rattle.cellfile.specs.Files.{cells_of, entries_all, pairs_of}
 use Rattle.cellfile.specs.Answers.{Answer, answer}
 use Rattle.checks.specs.Refusals.{Row, first, too_few_words, lists, list_rows, bad_pairing, no_pairing}
-use Rattle.checks.specs.Calls.{number, answered, one, call_rows, form_row}
+use Rattle.checks.specs.Calls.{answered, one, call_rows, form_row}
 use Rattle.checks.specs.declared.Refusal.{Refusal}
-use Rattle.checks.proofs.Layers.{number_some, after_passed, call_passes, call_sound}
+use Rattle.checks.proofs.Layers.{after_passed, call_passes, call_sound}
 use Rattle.checks.proofs.Merge.{join_all, merge_is, entries_ascend, pairs_ascend}
 use Rattle.weighing.specs.Weigh.{pair_row, weight, weighing}
 use Rattle.std.specs.Prelude.{Result}
@@ -39,24 +39,19 @@ module _ (list pairing : List ℕ) where
 
   -- ---- refusal 10 and the points
 
-  pub pairs_twice : (r : Refusal) → number r ≡ first ((10, not (distinct (cells ps))) ∷ [])
-      → (number r, []) ≡ answer (first (pair_row list pairing ∷ [])) (weight list pairing)
+  pub pairs_twice : {t : Bool} → t ≡ not (distinct (cells ps)) → t ≡ true
+      → (10, []) ≡ answer (first (pair_row list pairing ∷ [])) (weight list pairing)
   unfolding is_pairing
-  pairs_twice r = go (distinct (cells ps)) _
-    where
-      go : (t s : Bool) → number r ≡ first ((10, not t) ∷ [])
-          → (number r, []) ≡ answer (first ((10, not (t && s)) ∷ [])) (weight list pairing)
-      go true s e = absurd (omega (arith, e, number_some r))
-      go false s e = rw e
+  pairs_twice e h = rw (not-true (distinct (cells ps)) (sym e ∙ h))
 
   module _ (accepted : first (list_rows lists list) ≡ 0) (formed : bad_pairing (cells_of list) pairing ≡ false) where
-    pub pairs_found : {r : Result ℕ Refusal} → not (distinct (cells ps)) ≡ false
+    pub pairs_found : {t : Bool} {r : Result ℕ Refusal} → t ≡ not (distinct (cells ps)) → t ≡ false
         → r ≡ merged es ps 0 → answered one r ≡ answer (first (pair_row list pairing ∷ [])) (weight list pairing)
     unfolding is_pairing
-    pairs_found h m =
+    pairs_found e h m =
         ap (answered one) (m ∙ ap as_weighed (merge_is es ps 0 (entries_ascend list accepted)
         (pairs_ascend list accepted pairing formed)))
-        ∙ rw (not-false (distinct (cells ps)) h, zero-add (points es ps)) (go (join_all es ps))
+        ∙ rw (not-false (distinct (cells ps)) (sym e ∙ h), zero-add (points es ps)) (go (join_all es ps))
       where
         go : (t : Bool) → answered one (as_weighed (cond t (some (points es ps)) none))
             ≡ answer (first ((10, not t) ∷ [])) (points es ps ∷ [])

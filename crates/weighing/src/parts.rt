@@ -33,6 +33,8 @@ pub fn weigh_in(list: &[u8], pairing: &[u8], w1: &[u64], w2: &mut [u64]) -> Resu
 {
     let list = checks::check_call(list, w1, w2)?;
     let pairs = checks::check_pairing(pairing, list.entries.n)?;
-    partners::enter_pairs(&pairs, w2)?;
+    if partners::enter_pairs(&pairs, w2) {
+        return Err(Refusal::NoPairing);
+    }
     matched(&list.entries, &pairs)
 }

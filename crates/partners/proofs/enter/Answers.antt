@@ -1,4 +1,5 @@
 -- `enter` by whether a pair is missing, and whether a cell stands twice.
+use mathlib.Core.Bool.{true≢false}
 use Rattle.std.proofs.Common.{refl, arith}
 use Rattle.slots.proofs.Holding.{holds_kept}
 use Rattle.partners.proofs.Entering.{missing_is, filled_is}
@@ -6,8 +7,8 @@ use Rattle.partners.proofs.enter.Goals as goal
 
 pub returns-then-is_missing : goal.returns-then-is_missing
 returns-then-is_missing c = record {
-  refusal = rw (missing_is _ _ c.is_missing.ensures c.if-is_missing.true);
-  mates = tt;
+  answer = rw (missing_is _ _ c.is_missing.ensures c.if-is_missing.true);
+  mates = λ e. absurd (true≢false e);
   aside = λ j l. refl;
   slots = refl;
   first_kept = refl;
@@ -23,7 +24,7 @@ invariant_of-graph c = let g = c.args.graph.now in
 
 pub returns : goal.returns
 returns c = record {
-  refusal = filled_is _ _ c.is_missing.ensures c.if-is_missing.false c.enter_pairs.ensures.refusal;
+  answer = filled_is _ _ c.is_missing.ensures c.if-is_missing.false c.enter_pairs.ensures.answer;
   mates = c.enter_pairs.ensures.mates;
   aside = c.enter_pairs.ensures.aside;
   slots = refl;

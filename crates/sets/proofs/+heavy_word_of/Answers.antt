@@ -3,18 +3,13 @@
 use Rattle.std.proofs.Common.{arith, ◌∙◌}
 use Rattle.sets.proofs.Places.{fewer_first, next_within, fewer_next}
 use Rattle.sets.proofs.Heaviest.{best_none, word_light}
-use Rattle.sets.proofs.Tried.{tried_first, tried_all, tried_fits, tried_out, tried_light, tried_next}
+use Rattle.sets.proofs.Tried.{tried_first, tried_all, tried_fits, tried_out, tried_light, tried_better, tried_worse}
 use Rattle.sets.proofs.Known.{kept_none, kept_all, kept_more, ready_small, ready_kept}
-use Rattle.std.proofs.Common.{◌≡◌, max}
-use Rattle.std.specs.Ordering.{ord_max}
-use Rattle.sets.specs.declared.Word.{Word}
-use Rattle.sets.specs.contracts.WordOrd.TheImpl.{cmp-value}
 use Rattle.sets.proofs.+heavy_word_of.Goals as goal
-use Rattle.sets.proofs.+heavy_word_of.Goals.{heavy-then-rest-q-eq1+then-x-gt0, heavy-then-rest-q-eq1+else-x-gt0}
+use Rattle.sets.proofs.+heavy_word_of.Goals.{heavy-then-rest-q-eq1+then-x-gt0+then-points-y}
+use Rattle.sets.proofs.+heavy_word_of.Goals.{heavy-then-rest-q-eq1+then-x-gt0+else-points-y}
+use Rattle.sets.proofs.+heavy_word_of.Goals.{heavy-then-rest-q-eq1+else-x-gt0}
 use Rattle.sets.proofs.+heavy_word_of.Goals.{heavy-else-rest-q-eq1}
-
-greater : (a b : Word) → (ord_max cmp-value.it a b).0 ≡ max a.0 b.0
-greater a b = grind arith
 
 pub heavy-returns-then-s-eq0 : goal.heavy-returns-then-s-eq0
 heavy-returns-then-s-eq0 t c =
@@ -58,22 +53,31 @@ pub heavy-overflow_add-y : goal.heavy-overflow_add-y
 heavy-overflow_add-y t c = let i = c.loop-q.invariant in
     omega (arith, tried_fits i.tried (omega arith) i.ready.light c.word_of-then-x-gt0.ensures.0)
 
-pub heavy-of-requires-then-x-gt0 : goal.heavy-of-requires-then-x-gt0
-heavy-of-requires-then-x-gt0 t c = let i = c.loop-q.invariant in
+pub heavy-of-word-requires : goal.heavy-of-word-requires
+heavy-of-word-requires t c = let i = c.loop-q.invariant in
     (omega (arith, tried_fits i.tried (omega arith) i.ready.light c.word_of-then-x-gt0.ensures.0), omega arith)
 
 pub heavy-loop-q-preserved : goal.heavy-loop-q-preserved
 heavy-loop-q-preserved t c = let i = c.loop-q.invariant in
     elim c.if-rest-q-eq1.branch [
-      | heavy-then-rest-q-eq1+then-x-gt0 w ↦
+      | heavy-then-rest-q-eq1+then-x-gt0+then-points-y w ↦
           let h = w.word_of-then-x-gt0.ensures in
-          let b = w.of-then-x-gt0.ensures in
-          rw (w.w1-is, w.best-is, w.max-best.ensures, greater c.loop-q.best w.of-then-x-gt0.result) record {
+          let b = w.of-word.ensures in
+          rw (w.w1-is, w.best-is) record {
             ready = ready_kept i.ready h.1 (omega arith);
             kept = kept_all i.kept h.1;
             tried =
-                tried_next i.tried (omega arith) w.if-rest-q-eq1.true _ w.single-then-x-gt0.ensures h.0
-                w.if-x-gt0.true b.known (omega (arith, b.points)) b.partner;
+                tried_better i.tried (omega arith) w.if-rest-q-eq1.true w.single-then-x-gt0.ensures h.0 w.if-x-gt0.true
+                (omega arith) b.known (omega (arith, b.points)) b.partner;
+          }
+      | heavy-then-rest-q-eq1+then-x-gt0+else-points-y w ↦
+          let h = w.word_of-then-x-gt0.ensures in
+          rw (w.w1-is, w.best-is) record {
+            ready = ready_kept i.ready h.1 (omega arith);
+            kept = kept_all i.kept h.1;
+            tried =
+                tried_worse i.tried (omega arith) w.if-rest-q-eq1.true w.single-then-x-gt0.ensures h.0 w.if-x-gt0.true
+                (omega arith);
           }
       | heavy-then-rest-q-eq1+else-x-gt0 w ↦
           rw (w.w1-is, w.best-is) record {

@@ -27,6 +27,7 @@ returns-in_err-check_room-2 c =
 
 pub write_words-requires : goal.write_words-requires
 write_words-requires c = (
+  _,
   plain_pairing,
   record {
     cells = omega (arith, c.requires.0);
@@ -37,6 +38,7 @@ write_words-requires c = (
 
 pub write_words-requires-2 : goal.write_words-requires-2
 write_words-requires-2 c = (
+  _,
   plain_origins,
   record {
     cells = omega (arith, c.requires.0);
@@ -50,4 +52,4 @@ returns c =
     let a = c.args in
     both_written a.n a.pairs.now a.records.now a.out.now a.origins.now (c.file_bytes-size.ensures a.n)
     (c.file_bytes-origin_size.ensures a.n) c.in_ok-check_room.ensures c.in_ok-check_room-2.ensures
-    c.write_words.ensures c.write_words-2.ensures
+    (c.write_words.ensures _ plain_pairing) (c.write_words-2.ensures _ plain_origins)

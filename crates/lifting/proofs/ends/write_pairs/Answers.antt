@@ -16,6 +16,7 @@ returns-in_err-check_room c =
 
 pub write_words-requires : goal.write_words-requires
 write_words-requires c = (
+  _,
   plain_pairing,
   record {
     cells = omega (arith, c.requires.0);
@@ -28,4 +29,4 @@ pub returns : goal.returns
 returns c =
     let a = c.args in
     one_written _ a.out.now (words_long plain_pairing a.n a.pairs.now (c.file_bytes-size.ensures a.n))
-    c.in_ok-check_room.ensures c.write_words.ensures
+    c.in_ok-check_room.ensures (c.write_words.ensures _ plain_pairing)

@@ -30,6 +30,7 @@ pub write_words-requires : goal.write_words-requires
 write_words-requires c =
     let a = c.args in
     let q = names_many a.at.n a.at.steps a.w2.now c.requires.1 c.requires.2 in (
+      _,
       plain_slip,
       record {
         cells = omega (arith, c.requires.0.cells);
@@ -52,4 +53,4 @@ returns c =
     let q = c.finish-r.ensures.1 in
     both_written a.w2.now a.at.carried c.requires.0 c.requires.1 c.requires.2 q a.slip.now a.short.now
     (c.file_bytes-slip_size.ensures a.at.n) (c.file_bytes-short_size.ensures a.at.n) c.in_ok-check_room.ensures
-    c.in_ok-check_room-2.ensures c.write_words.ensures (c.write_short.ensures _ (left_rows c.requires.0 q))
+    c.in_ok-check_room-2.ensures (c.write_words.ensures _ plain_slip) (c.write_short.ensures _ (left_rows c.requires.0 q))

@@ -32,6 +32,7 @@ write_words-requires c =
     let w = words (goal.at.write_words-requires c).After-file_bytes-size in
     let few = length-take-le k.result k.new.w1 w in
     let s = c.args.entries.now.file.now in (
+      _,
       plain_store,
       record {
         cells = omega (arith, c.args.entries.now.cells, (bad_raw_none _ c.requires.accepted).0.0);
@@ -46,4 +47,4 @@ returns c =
     let at = (goal.at.returns c).After-file_bytes-size in
     rw (size at) (tidy_written c.args.entries.now.file.now c.requires.accepted k.new.w1 k.result (words at) k.ensures.1
     c.args.store.now c.args.entries.now.cells (omega (arith, size at, c.in_ok-check_room.ensures))
-    c.write_words.ensures)
+    (c.write_words.ensures _ plain_store))
