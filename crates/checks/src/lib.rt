@@ -84,7 +84,7 @@ fn is_stray(n: usize, a: usize, b: usize) -> bool
 fn check_entries(entries: &Entries) -> Result<(), Refusal>
     ensures { refusal_in result ≡ first (entry_rows entries.now.file.now) }
 {
-    let mut order = Ok(());
+    let mut ordered = true;
     let mut low: usize = 0;
     for i in 0..entries.m {
         let e = entries.get(i);
@@ -93,11 +93,14 @@ fn check_entries(entries: &Entries) -> Result<(), Refusal>
         }
         let key = e.a * 1024 + e.b;
         if key < low {
-            order = Err(Refusal::Unordered);
+            ordered = false;
         }
         low = key + 1;
     }
-    order
+    if !ordered {
+        return Err(Refusal::Unordered);
+    }
+    Ok(())
 }
 
 // Refusals 2 to 6.
