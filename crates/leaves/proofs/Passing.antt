@@ -19,7 +19,7 @@ use Rattle.slots.proofs.Holding.{holds_room}
 use Rattle.slots.proofs.Working.{buffers_on}
 use Rattle.finding.specs.Finding.{Quiet}
 use Rattle.trail.specs.Trail.{closing}
-use Rattle.leaves.specs.Runs.{LeafRunThere, Slack, LeafOf, Noted, Words, Owes, Taken}
+use Rattle.leaves.specs.Runs.{LeafRunThere, Slack, LeafOf, Noted, Words, Owes, TakenInSlots}
 use Rattle.leaves.specs.declared.LeafRun.{LeafRun}
 use Rattle.leaves.specs.declared.places.Room.{Room}
 use Rattle.leaves.proofs.Owing.{Owing, owing_start, owing_gone, owing_take, owing_quiet}
@@ -118,37 +118,41 @@ module _ {n u c₀ : ℕ} {room : Room} {g₀ : WorkingGraph} (h : LeafRunThere 
         go (fail m) = rw after (s.quiet x l m)
 
     pub run_taken : {low : ℕ} → Quiet low (graph_in g')
-        → Taken n room g₀ g' (record { steps = r.steps; carried = r.carried; low = low })
+        → TakenInSlots n room g₀ g' (record { steps = r.steps; carried = r.carried; low = low })
     run_taken q = record {
-      hub = u;
-      cells = s.cells;
       slots = d.slots ∙ s.slots;
-      words =
-          words_kept g g' s.words d.aside (omega (arith, s.count, s.few, room.on_trail))
-          (omega (arith, s.count, s.few, room.in_names));
-      first = s.first;
-      count = s.count;
-      few = s.few;
-      graph = after ∙ s.graph;
-      carries = s.carries;
-      quiet = q;
-      buffers = buffers_on s.buffers d.buffers;
+      taken = record {
+        hub = u;
+        cells = s.cells;
+        words =
+            words_kept g g' s.words d.aside (omega (arith, s.count, s.few, room.on_trail))
+            (omega (arith, s.count, s.few, room.in_names));
+        first = s.first;
+        count = s.count;
+        few = s.few;
+        graph = after ∙ s.graph;
+        carries = s.carries;
+        quiet = q;
+        buffers = buffers_on s.buffers d.buffers;
+      };
     }
 
 pub run_none : {n low : ℕ} {room : Room} {g : WorkingGraph} → Quiet low (graph_in g)
-    → Taken n room g g (record { steps = 0; carried = 0; low = low })
+    → TakenInSlots n room g g (record { steps = 0; carried = 0; low = low })
 run_none {room = room} {g = g} q = record {
-  hub = 0;
-  cells = [];
   slots = refl;
-  words = words_start room.trail room.names 0 g.w2.now;
-  first = refl;
-  count = refl;
-  few = omega arith;
-  graph = refl;
-  carries = refl;
-  quiet = q;
-  buffers = record { first = refl; second = refl };
+  taken = record {
+    hub = 0;
+    cells = [];
+    words = words_start room.trail room.names 0 g.w2.now;
+    first = refl;
+    count = refl;
+    few = omega arith;
+    graph = refl;
+    carries = refl;
+    quiet = q;
+    buffers = record { first = refl; second = refl };
+  };
 }
 
 -- below 0 there is no cell

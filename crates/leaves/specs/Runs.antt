@@ -87,7 +87,6 @@ pub record Owes (n u : ℕ) (room : Room) (g g' : WorkingGraph) (r : LeafRun) : 
 pub record Taken (n : ℕ) (room : Room) (g g' : WorkingGraph) (r : LeafRun) : Type 0 where
   pub hub : ℕ
   pub cells : List ℕ
-  pub slots : g'.slots ≡ g.slots
   pub words : Words room.trail room.names hub cells g.w2.now g'.w2.now
   pub first : reduce (length cells) n (graph_in g) ≡ leaves_at hub cells
   pub count : r.steps ≡ length cells
@@ -96,3 +95,8 @@ pub record Taken (n : ℕ) (room : Room) (g g' : WorkingGraph) (r : LeafRun) : T
   pub carries : r.carried ≡ carried (graph_in g) (leaves_at hub cells)
   pub quiet : Quiet r.low (graph_in g')
   pub buffers : SameBuffers g g'
+
+-- The same, and the slots in use stay.
+pub record TakenInSlots (n : ℕ) (room : Room) (g g' : WorkingGraph) (r : LeafRun) : Type 0 where
+  pub slots : g'.slots ≡ g.slots
+  pub taken : Taken n room g g' r

@@ -13,7 +13,7 @@ ghost use Rattle.matching.specs.Graph.{Graph};
 ghost use Rattle.slots.specs.Slots.{low_of, high_of};
 ghost use Rattle.slots.specs.Working.{graph_in};
 ghost use Rattle.finding.specs.Finding.{Quiet};
-ghost use Rattle.leaves.specs.Runs.{KeptPoints, Slack, DueThere, LeafRunThere, Noted, Owes, Taken};
+ghost use Rattle.leaves.specs.Runs.{KeptPoints, Slack, DueThere, LeafRunThere, Noted, Owes, TakenInSlots};
 
 use buffers::map;
 use cellfile::format::Rule;
@@ -142,7 +142,7 @@ const MANY: u64 = 16;
 // The run at u from the leaf c on; then every pair at u loses what is owed.
 fn run_at(graph: &mut WorkingGraph, n: usize, u: usize, c: usize, room: Room) -> LeafRun
     requires { LeafRunThere n u c graph.old }
-    ensures { Taken n room graph.old graph.new result }
+    ensures { TakenInSlots n room graph.old graph.new result }
 {
     let run = take_leaves(graph, n, u, c, room);
     graph.lessen_all(u, run.carried);
@@ -156,7 +156,7 @@ fn run_at(graph: &mut WorkingGraph, n: usize, u: usize, c: usize, room: Room) ->
 // cell below `low` is a leaf.
 pub fn leaf_run(graph: &mut WorkingGraph, n: usize, low: usize, room: Room) -> LeafRun
     requires { (n ≤ 1024) × Graph n (graph_in graph.old) × Quiet low (graph_in graph.old) }
-    ensures { Taken n room graph.old graph.new result }
+    ensures { TakenInSlots n room graph.old graph.new result }
 {
     let none = LeafRun {
         steps: 0,

@@ -1,9 +1,12 @@
 -- The partners of the lowest place of a set, tried one by one. In order: one more try; the partner had so far
--- (`Tried`), from before the first try to after the last, where its word is the set's (`tried_all`).
+-- (`Tried`), from before the first try to after the last, where its word is the set's (`tried_all`); that it stands
+-- before the places still to be tried (`Before`).
 use mathlib.Core.Path.{◌≡◌, sym, ap, ◌∙◌}
 use mathlib.Core.Logic.{◌≢◌}
 use mathlib.Core.List.{List, ◌∷◌}
 use Rattle.std.specs.Prelude.{None, Some}
+use Rattle.std.specs.Option.{IfSome}
+use Rattle.std.proofs.lemmas.Option.{IfSome_then}
 use Prim.Native.Nat.{ℕ, ◌+◌, ◌*◌, ◌-◌, ◌/◌, ◌%◌, ◌^◌, ◌≤◌, ◌<◌}
 use native.Mathlib.Omega.{arith}
 use lib.ListN.{get_or}
@@ -133,3 +136,18 @@ module _ {ws : List ℕ} {s c rest p v : ℕ} (t : Tried ws s c rest p v) where
               sums = r ∙ sums_here ∙ ap (sum (between ws)) (sym told_p);
               within = rw o (l, b);
             }
+
+-- ---- where the partner had stands
+
+-- The partner that the word v tells, if any, is before the place p.
+abbrev pub Before : ℕ → ℕ → Type 0
+Before p v = IfSome (partner_told v) (λ x. x < p)
+
+pub before_first : (p v : ℕ) → partner_told v ≡ None → Before p v
+before_first p v o = rw o tt
+
+pub before_next : (p v : ℕ) → Before p v → Before (p + 1) v
+before_next p v h = IfSome_then (partner_told v) h (λ x h. omega arith)
+
+pub before_better : (p n : ℕ) → partner_told n ≡ Some p → Before (p + 1) n
+before_better p n o = rw o (omega arith)

@@ -14,9 +14,10 @@ pub leaf_run-run-requires : goal.leaf_run-run-requires
 leaf_run-run-requires c = let h = c.requires.3 in (h.asked.cells, run_graph h, h.quiet)
 
 pub overflow_add-result-2 : goal.overflow_add-result-2
-overflow_add-result-2 c = omega (arith, leaves_carry c.requires.3 c.requires.2 c.spare.ensures c.leaf_run-run.ensures)
+overflow_add-result-2 c =
+    omega (arith, leaves_carry c.requires.3 c.requires.2 c.spare.ensures c.leaf_run-run.ensures.taken)
 
 pub returns-clause-on : goal.returns-clause-on
 returns-clause-on c = λ w rs many h.
-    after_leaves h many c.spare.ensures c.leaf_run-run.ensures c.rings_left.ensures.low c.rings_left.ensures.rings
+    after_leaves h many c.spare.ensures c.leaf_run-run.ensures.taken c.rings_left.ensures.low c.rings_left.ensures.rings
     (λ l. grind (arith, nat_tests))
