@@ -1,6 +1,6 @@
 -- The partners of the lowest place of a set, tried one by one. In order: one more try; the partner had so far
 -- (`Tried`), from before the first try to after the last, where its word is the set's (`tried_all`); that it stands
--- before the places still to be tried (`Before`).
+-- before the places still to be tried (`Earlier`).
 use mathlib.Core.Path.{◌≡◌, sym, ap, ◌∙◌}
 use mathlib.Core.Logic.{◌≢◌}
 use mathlib.Core.List.{List, ◌∷◌}
@@ -140,14 +140,14 @@ module _ {ws : List ℕ} {s c rest p v : ℕ} (t : Tried ws s c rest p v) where
 -- ---- where the partner had stands
 
 -- The partner that the word v tells, if any, is before the place p.
-abbrev pub Before : ℕ → ℕ → Type 0
-Before p v = IfSome (partner_told v) (λ x. x < p)
+abbrev pub Earlier : ℕ → ℕ → Type 0
+Earlier p v = IfSome (partner_told v) (λ x. x < p)
 
-pub before_first : (p v : ℕ) → partner_told v ≡ None → Before p v
-before_first p v o = rw o tt
+pub earlier_first : (p v : ℕ) → partner_told v ≡ None → Earlier p v
+earlier_first p v o = rw o tt
 
-pub before_next : (p v : ℕ) → Before p v → Before (p + 1) v
-before_next p v h = IfSome_then (partner_told v) h (λ x h. omega arith)
+pub earlier_next : (p v : ℕ) → Earlier p v → Earlier (p + 1) v
+earlier_next p v h = IfSome_then (partner_told v) h (λ x h. omega arith)
 
-pub before_better : (p n : ℕ) → partner_told n ≡ Some p → Before (p + 1) n
-before_better p n o = rw o (omega arith)
+pub earlier_better : (p n : ℕ) → partner_told n ≡ Some p → Earlier (p + 1) n
+earlier_better p n o = rw o (omega arith)

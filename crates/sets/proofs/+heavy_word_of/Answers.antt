@@ -4,7 +4,7 @@ use Rattle.std.proofs.Common.{arith, ◌∙◌}
 use Rattle.sets.proofs.Places.{fewer_first, next_within, fewer_next}
 use Rattle.sets.proofs.Heaviest.{best_none, word_light}
 use Rattle.sets.proofs.Tried.{tried_first, tried_all, tried_fits, tried_out, tried_light, tried_better, tried_worse}
-use Rattle.sets.proofs.Tried.{before_first, before_next, before_better}
+use Rattle.sets.proofs.Tried.{earlier_first, earlier_next, earlier_better}
 use Rattle.sets.proofs.Known.{kept_none, kept_all, kept_more, ready_small, ready_kept}
 use Rattle.sets.proofs.+heavy_word_of.Goals as goal
 use Rattle.sets.proofs.+heavy_word_of.Goals.{heavy-then-rest-q-eq1+then-x-gt0+then-points-y}
@@ -35,7 +35,7 @@ heavy-loop-q-init t c = let h = c.word_of.ensures in
       kept = h.1;
       tried =
           tried_first c.single.ensures c.lowest-c.ensures h.0 b.known (b.points ∙ c.points.ensures) b.partner;
-      before = before_first _ _ b.partner;
+      earlier = earlier_first _ _ b.partner;
     }
 
 pub heavy-overflow_sub-rest-then-x-gt0 : goal.heavy-overflow_sub-rest-then-x-gt0
@@ -71,7 +71,7 @@ heavy-loop-q-preserved t c = let i = c.loop-q.invariant in
             tried =
                 tried_better i.tried (omega arith) w.if-rest-q-eq1.true w.single-then-x-gt0.ensures h.0 w.if-x-gt0.true
                 (omega arith) b.known (omega (arith, b.points)) b.partner;
-            before = before_better _ _ b.partner;
+            earlier = earlier_better _ _ b.partner;
           }
       | heavy-then-rest-q-eq1+then-x-gt0+else-points-y w ↦
           let h = w.word_of-then-x-gt0.ensures in
@@ -81,21 +81,21 @@ heavy-loop-q-preserved t c = let i = c.loop-q.invariant in
             tried =
                 tried_worse i.tried (omega arith) w.if-rest-q-eq1.true w.single-then-x-gt0.ensures h.0 w.if-x-gt0.true
                 (omega arith);
-            before = before_next _ _ i.before;
+            earlier = earlier_next _ _ i.earlier;
           }
       | heavy-then-rest-q-eq1+else-x-gt0 w ↦
           rw (w.w1-is, w.best-is) record {
             ready = i.ready;
             kept = i.kept;
             tried = tried_light i.tried (omega arith) w.if-rest-q-eq1.true w.if-x-gt0.false;
-            before = before_next _ _ i.before;
+            earlier = earlier_next _ _ i.earlier;
           }
       | heavy-else-rest-q-eq1 w ↦
           rw (w.w1-is, w.best-is) record {
             ready = i.ready;
             kept = i.kept;
             tried = tried_out i.tried (omega arith) w.if-rest-q-eq1.false;
-            before = before_next _ _ i.before;
+            earlier = earlier_next _ _ i.earlier;
           }
     ]
 
