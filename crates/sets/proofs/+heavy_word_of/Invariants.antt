@@ -1,4 +1,4 @@
--- In `heavy`: of the partners tried so far the one had is the best, it comes before those still to be tried, and what is
+-- In `heavy`: of the partners tried so far the one had is the best, and comes before those still to be tried; what is
 -- found is known.
 -- `heavy` asks `word_of` of smaller sets, which asks `heavy` of the same set where its word is not known: twice the
 -- number of places falls, and is one more in `word_of`.
